@@ -1,0 +1,51 @@
+-- The refusal of a case that is handed without bytes: 01: "3 or 4 as the reader would for the first bad field"; 0 if there is none.
+-- Orders are taken as sets, so that no pair is out of turn or out of range.
+-- Assumes nothing.
+use Prim.Native.Nat.{ℕ, zero, suc}
+use mathlib.Core.Bool.{Bool, true, false, not, _&&_, _||_}
+use mathlib.Core.List.{List, [], _∷_, _++_}
+use lib.Dec.{leb, ltb}
+use lib.ListN.{length}
+use Rattle.model.specs.Limits.{leastEdition, mostEdition, mostThreads, mostAddresses, mostEvents, mostValue, mostName}
+use Rattle.model.specs.Case.{Case, Event, mostKind, bare}
+use Rattle.model.specs.Rules.{orElse}
+use Rattle.model.specs.Record.{member, storeTo}
+
+unfoldable pub every : {A : Type 0} → (A → Bool) → List A → Bool
+every f [] = true
+every f (a ∷ as′) = f a && every f as′
+
+-- v is from lo to hi
+abbrev pub between : ℕ → ℕ → ℕ → Bool
+between lo hi v = leb lo v && leb v hi
+
+unfoldable pub eventGood : (n m : ℕ) → Event → Bool
+eventGood n m e =
+    leb (e .kind) mostKind && ltb (e .thread) n && (bare (e .kind) || (ltb (e .address) m && leb (e .value) mostValue))
+
+-- the first fault that is not 0
+abbrev pub firstFault : ℕ → ℕ → ℕ
+firstFault zero y = y
+firstFault (suc x) y = suc x
+
+-- of a write order, behind those listed before: mine are the stores to its address
+unfoldable pub writeFault : (k : ℕ) (mine : ℕ → Bool) → List ℕ → List ℕ → ℕ
+writeFault k mine before [] = 0
+writeFault k mine before (e ∷ w) =
+    orElse (ltb e k) 3 (orElse (mine e && not (member e before)) 4 (writeFault k mine (before ++ (e ∷ [])) w))
+
+-- of the write orders of the addresses from x on
+unfoldable pub writesFault : (k : ℕ) (mine : ℕ → ℕ → Bool) → (x : ℕ) → List (List ℕ) → ℕ
+writesFault k mine x [] = 0
+writesFault k mine x (w ∷ ws) = firstFault (writeFault k (mine x) [] w) (writesFault k mine (suc x) ws)
+
+unfoldable pub fault : Case → ℕ
+fault c =
+    orElse (between leastEdition mostEdition (c .edition)) 3
+    (orElse (between 1 mostThreads (c .n)) 3
+    (orElse (between 1 mostAddresses (c .m)) 3
+    (orElse (every (λ v. leb v mostValue) (c .initials)) 3
+    (orElse (leb (c .k) mostEvents) 3
+    (orElse (every (eventGood (c .n) (c .m)) (c .events)) 3
+    (firstFault (writesFault (c .k) (storeTo (c .events)) 0 (c .writes))
+    (orElse (leb (length (c .name)) mostName) 3 0)))))))

@@ -1,0 +1,9 @@
+pub mod Limits
+pub mod Case
+pub mod Rules
+pub mod Record
+pub mod Written
+pub mod Fault
+pub mod Renumber
+pub mod Answers
+pub mod Calls
