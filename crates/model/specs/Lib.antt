@@ -7,3 +7,4 @@ pub mod Fault
 pub mod Renumber
 pub mod Answers
 pub mod Calls
+pub mod Bound

@@ -1,0 +1,55 @@
+-- Cases that keep the limits: those that a record gives.
+-- Assumes nothing.
+use Prim.Native.Nat.{ℕ, _≤_, _<_, _^_}
+use mathlib.Core.Path.{_≡_}
+use mathlib.Core.Bool.{Bool, true, false, not, _&&_}
+use mathlib.Core.List.{List, [], _∷_, _++_}
+use lib.ListN.{length}
+use Rattle.finite.specs.Tests.{count}
+use Rattle.model.specs.Limits.{leastEdition, mostEdition, mostThreads, mostAddresses, mostEvents, mostValue, mostName}
+use Rattle.model.specs.Case.{Case, Event, mostKind, bare}
+use Rattle.model.specs.Record.{member, storeTo}
+
+abbrev pub All : {A : Type 0} → (A → Type 0) → List A → Type 0
+All P [] = Unit {0}
+All P (a ∷ as′) = P a × All P as′
+
+abbrev pub Bytes : List ℕ → Type 0
+Bytes s = All (λ b. b < 256) s
+
+pub record EventFits (n m : ℕ) (e : Event) : Type 0 where
+  pub kind : e .kind ≤ mostKind
+  pub thread : e .thread < n
+  pub address : bare (e .kind) ≡ false → e .address < m
+  pub value : bare (e .kind) ≡ false → e .value ≤ mostValue
+  pub no-address : bare (e .kind) ≡ true → e .address ≡ 0
+  pub no-value : bare (e .kind) ≡ true → e .value ≡ 0
+
+-- w lists stores of mine, none of them listed before
+abbrev pub WriteFits : (k : ℕ) (mine : ℕ → Bool) → List ℕ → List ℕ → Type 0
+WriteFits k mine before [] = Unit {0}
+WriteFits k mine before (e ∷ w) = (e < k) × ((mine e && not (member e before)) ≡ true) × WriteFits k mine (before ++ (e ∷ [])) w
+
+abbrev pub WritesFit : (k : ℕ) (mine : ℕ → ℕ → Bool) → List (List ℕ) → List (List ℕ) → Type 0
+WritesFit k mine before [] = Unit {0}
+WritesFit k mine before (w ∷ ws) =
+    (length w ≡ count k (mine (length before))) × WriteFits k (mine (length before)) [] w × WritesFit k mine (before ++ (w ∷ [])) ws
+
+pub record Fits (c : Case) : Type 0 where
+  pub edition-least : leastEdition ≤ c .edition
+  pub edition-most : c .edition ≤ mostEdition
+  pub n-least : 1 ≤ c .n
+  pub n-most : c .n ≤ mostThreads
+  pub m-least : 1 ≤ c .m
+  pub m-most : c .m ≤ mostAddresses
+  pub k-most : c .k ≤ mostEvents
+  pub m : c .m ≡ length (c .initials)
+  pub initials : All (λ v. v ≤ mostValue) (c .initials)
+  pub k : c .k ≡ length (c .events)
+  pub events : All (EventFits (c .n) (c .m)) (c .events)
+  pub m′ : c .m ≡ length (c .writes)
+  pub writes : WritesFit (c .k) (storeTo (c .events)) [] (c .writes)
+  pub n : c .n ≡ length (c .orders)
+  pub orders : All (λ rows. (length rows ≡ c .k) × All (λ r. r < 2 ^ (c .k)) rows) (c .orders)
+  pub name : length (c .name) ≤ mostName
+  pub name-bytes : Bytes (c .name)
