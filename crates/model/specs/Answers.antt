@@ -49,9 +49,12 @@ pub record Stored : Type 0 where
   pub answer : Answer
   pub buffer : List ℕ
 
--- the place is not past the buffer's end, and at least size bytes are left from there
+-- the place is not past the end of as many bytes, and at least size bytes are left from there
+abbrev pub roomIn : (size bytes at : ℕ) → Bool
+roomIn size bytes at = leb at bytes && leb size (bytes - at)
+
 abbrev pub room : ℕ → List ℕ → ℕ → Bool
-room size buffer at = leb at (length buffer) && leb size (length buffer - at)
+room size buffer at = roomIn size (length buffer) at
 
 -- bytes w from a place onward, or 6; 01: "bytes before and after it stay. Any refusal leaves the buffer untouched"
 unfoldable pub put : List ℕ → List ℕ → ℕ → Stored
@@ -116,10 +119,10 @@ name s = part s (namePart (read s))
 unfoldable pub judgedName : (model : ℕ) → List ℕ → List ℕ
 judgedName model s = underModel model (λ w. name s) []
 
--- beside renumbering: none under 5 and 6
-unfoldable pub renumberedName : (q r : ℕ) → List ℕ → List ℕ → ℕ → List ℕ
-renumberedName q r s buffer at = nameUnder (renumberRecord q r s buffer at .answer .number)
-  where
-    nameUnder : ℕ → List ℕ
-    nameUnder zero = name s
-    nameUnder (suc x) = []
+abbrev pub nameUnder : (number : ℕ) → List ℕ → List ℕ
+nameUnder zero s = name s
+nameUnder (suc x) s = []
+
+-- beside renumbering into a buffer of size bytes: none under 1 to 6
+unfoldable pub renumberedName : (q r : ℕ) → List ℕ → (size at : ℕ) → List ℕ
+renumberedName q r s size at = nameUnder (renumberRecord q r s (replicate size 0) at .answer .number) s

@@ -1,0 +1,4 @@
+.PHONY: test
+# all proofs, must-fail edits, programs and tests
+test:
+	.ci/run
