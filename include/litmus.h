@@ -1,0 +1,102 @@
+/*
+ * litmus: judges candidate executions under the POWER memory models PPCw and PPCs.
+ *
+ * A record is one candidate execution in bytes; docs/FORMAT.md describes it. Each call looks at
+ * the record that starts at the first byte it is handed and reads no further than that record
+ * ends, so records may lie back to back.
+ *
+ * Any bytes, any sizes, models, permutations and places are fine: there is an answer for each.
+ * A size or room of 0 is fine, but the pointer that goes with it must not be NULL. No call keeps a
+ * pointer, allocates memory or has any other state; calls may run at the same time.
+ */
+#ifndef LITMUS_H
+#define LITMUS_H
+
+#include <stddef.h>
+#include <stdint.h>
+
+#ifdef __cplusplus
+extern "C" {
+#endif
+
+/* The models. */
+enum {
+    LITMUS_PPCW = 0, /* rules 15 and 16 for each thread's own loads */
+    LITMUS_PPCS = 1  /* rules 15 and 16 for every load that a thread's order mentions */
+};
+
+/*
+ * number   what was found:
+ *             0  accepted, or done
+ *             1  the bytes end inside a number or the name
+ *             2  a number has too many groups, or is not in its shortest form
+ *             3  a number is outside its range
+ *             4  a write order entry is not a store to that address or was listed before, or a
+ *                pair is not above the pair before it
+ *             5  not a permutation number, or it does not map the case's labels onto themselves
+ *             6  the buffer has too few bytes from the given place, or the place is past its end
+ *             7  no such model
+ *            11  a thread's order is not irreflexive and transitive
+ *            12  a thread's order leaves two of its own events unordered
+ *            13  a thread's order breaks its program order at a sync or on one address
+ *            14  a thread's order of two stores to one address is not the write order's
+ *            15  a load does not hold the initial value, and no store to its address comes
+ *                before it
+ *            16  a load's value is not the one of the latest store before it
+ *            17  what a sync orders is not in that order for every thread
+ *            18  what a sync orders for the readers of a later store is not so for every thread
+ *          Where several rules are broken, the lowest is given.
+ * place    under 1 to 4, the byte where the faulty number starts (of a pair: its first number;
+ *          of a name that is cut short: its first byte); otherwise 0
+ * length   under 0 and 11 to 18, how many bytes the record takes; otherwise 0
+ * finals   of litmus_judge under 0, what each address holds at the end, and 0 for addresses that
+ *          the case does not have; otherwise all 0
+ */
+typedef struct {
+    uint32_t number;
+    uint64_t place;
+    uint64_t length;
+    uint32_t finals[4];
+} litmus_answer;
+
+/* A part of the bytes that were handed in: where it starts, and how many bytes it has. */
+typedef struct {
+    uint64_t at;
+    uint64_t length;
+} litmus_part;
+
+/* Whether the bytes start with a record: 0 with its length, or 1 to 4 with the place. */
+litmus_answer litmus_read(const uint8_t *record, size_t size);
+
+/*
+ * Judges the record under a model: 0 with length and finals, 11 to 18 with length, 7 before
+ * anything else is looked at, or 1 to 4 as litmus_read.
+ */
+litmus_answer litmus_judge(const uint8_t *record, size_t size, uint64_t model);
+
+/*
+ * Writes the record, its threads and addresses renumbered, into out from the byte `at` onward: 0
+ * with the length, which is also the old record's. Permutations of the labels 0 to 3 are numbered
+ * 0 (0123) to 23 (3210) in dictionary order; "1230" sends 0 to 1.
+ *
+ * Checked in this order: the record (1 to 4), threads (5), addresses (5), room (6). Only the
+ * record's bytes are written; under a refusal none is. out and record must be different buffers
+ * that do not overlap.
+ */
+litmus_answer litmus_renumber(const uint8_t *record, size_t size, uint64_t threads,
+                              uint64_t addresses, uint8_t *out, size_t room, uint64_t at);
+
+/* Where the record's name lies; at 0 and of length 0 where litmus_read refuses the bytes. */
+litmus_part litmus_name(const uint8_t *record, size_t size);
+
+/*
+ * The number of the permutation that is first one and then the other. A number above 23 counts as
+ * 0, which moves nothing.
+ */
+uint64_t litmus_composite(uint64_t first, uint64_t then);
+
+#ifdef __cplusplus
+}
+#endif
+
+#endif

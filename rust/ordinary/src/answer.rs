@@ -1,0 +1,62 @@
+//! What each call answers.
+
+use crate::limits::ADDRESSES;
+
+/// The bytes end inside a number or the name.
+pub const ENDS: u32 = 1;
+/// A number has too many groups, or is not in its shortest form.
+pub const FORM: u32 = 2;
+/// A number is outside its range.
+pub const RANGE: u32 = 3;
+/// A write order entry or a pair is not one that may stand there.
+pub const MISPLACED: u32 = 4;
+/// Not a permutation of the case's labels.
+pub const PERMUTATION: u32 = 5;
+/// Too little room in the buffer.
+pub const ROOM: u32 = 6;
+/// No such model.
+pub const MODEL: u32 = 7;
+
+/// Every field that does not apply is 0.
+#[derive(Clone, Copy, Debug, Default, PartialEq, Eq)]
+pub struct Answer {
+    pub number: u32,
+    pub place: usize,
+    pub length: usize,
+    pub finals: [u32; ADDRESSES],
+}
+
+impl Answer {
+    /// Done, with the record's length.
+    pub fn done(length: usize) -> Answer {
+        Answer {
+            length,
+            ..Answer::default()
+        }
+    }
+
+    /// Refused with nothing but a number.
+    pub fn refused(number: u32) -> Answer {
+        Answer {
+            number,
+            ..Answer::default()
+        }
+    }
+}
+
+/// A refusal of the record, or of a case (then the place is 0).
+#[derive(Clone, Copy, Debug, PartialEq, Eq)]
+pub struct Refusal {
+    pub number: u32,
+    pub place: usize,
+}
+
+impl From<Refusal> for Answer {
+    fn from(refusal: Refusal) -> Answer {
+        Answer {
+            number: refusal.number,
+            place: refusal.place,
+            ..Answer::default()
+        }
+    }
+}

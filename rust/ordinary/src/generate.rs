@@ -1,0 +1,187 @@
+//! Random cases and records for the tests and the benchmark.
+
+mod damage;
+mod program;
+mod sparse;
+
+pub use damage::damaged;
+pub use sparse::{sparse, Duty};
+
+use crate::case::{Case, Kind, Order};
+use crate::limits::{ADDRESSES, NAME, THREADS};
+use crate::random::Random;
+use crate::write;
+use program::{any_program, interleaving, loads, program, value_in, write_in};
+
+/// An accepted execution of `count` events with every thread and address in use: all threads see
+/// all events in one order.
+pub fn full(random: &mut Random, count: usize) -> Case {
+    let mut case = program(random, THREADS, ADDRESSES, count, 6);
+    one_order(random, &mut case);
+    case
+}
+
+/// As `full`, of any size.
+pub fn sequential(random: &mut Random) -> Case {
+    let mut case = any_program(random, 6);
+    one_order(random, &mut case);
+    case
+}
+
+fn one_order(random: &mut Random, case: &mut Case) {
+    let sequence = interleaving(random, case);
+    write_in(case, &sequence);
+    for l in loads(case) {
+        case.events[l].value = value_in(case, &sequence, l);
+    }
+    case.orders.fill(Order::total(&sequence));
+}
+
+/// An execution whose threads see different orders, their own loads reading from these. With few
+/// syncs, most are accepted under PPCw.
+pub fn apart(random: &mut Random) -> Case {
+    let mut case = any_program(random, 20);
+    let sequence = interleaving(random, &case);
+    write_in(&mut case, &sequence);
+    for p in 0..case.threads() {
+        let own = reordered(random, &case, &sequence);
+        for l in loads(&case) {
+            if case.events[l].thread == p {
+                case.events[l].value = value_in(&case, &own, l);
+            }
+        }
+        case.orders[p] = Order::total(&own);
+    }
+    case
+}
+
+/// The sequence after some exchanges that keep program order and the order of stores to an address.
+fn reordered(random: &mut Random, case: &Case, sequence: &[usize]) -> Vec<usize> {
+    let mut new = sequence.to_vec();
+    for _ in 0..random.below(3 * new.len() + 1) {
+        let i = random.below(new.len());
+        let (a, b) = (new[i], new[(i + 1) % new.len()]);
+        let (first, second) = (case.events[a], case.events[b]);
+        let both_store = first.kind == Kind::Store && second.stores(first.address);
+        if i + 1 < new.len() && first.thread != second.thread && !both_store {
+            new.swap(i, i + 1);
+        }
+    }
+    new
+}
+
+/// A few events with random values and orders.
+pub fn tiny(random: &mut Random) -> Case {
+    let threads = random.from_to(1, 3.min(THREADS));
+    let addresses = random.from_to(1, 2.min(ADDRESSES));
+    let count = random.below(6);
+    let mut case = program(random, threads, addresses, count, 4);
+    for event in case.events.iter_mut().filter(|e| !e.is_sync()) {
+        event.value = random.below(3) as u32;
+    }
+    for address in 0..addresses {
+        let mut stores = case.stores_to(address);
+        random.shuffle(&mut stores);
+        case.write_orders[address] = stores;
+    }
+    for p in 0..threads {
+        case.orders[p] = any_order(random, &case);
+    }
+    case
+}
+
+fn any_order(random: &mut Random, case: &Case) -> Order {
+    let mut sequence = interleaving(random, case);
+    match random.below(8) {
+        0 => random.shuffle(&mut sequence),
+        1 | 2 => sequence.retain(|_| !random.once_in(4)),
+        _ => {}
+    }
+    let mut order = Order::total(&sequence);
+    if random.once_in(3) {
+        for (a, b) in order.pairs(case.events.len()) {
+            if random.once_in(3) {
+                order.remove(a, b);
+            }
+        }
+        if random.once_in(2) {
+            order.close();
+        }
+    }
+    order
+}
+
+/// The case with one to three small changes; it stays readable.
+pub fn off(random: &mut Random, mut case: Case) -> Case {
+    for _ in 0..random.from_to(1, 3) {
+        change(random, &mut case);
+    }
+    case
+}
+
+fn change(random: &mut Random, case: &mut Case) {
+    let count = case.events.len();
+    if count == 0 {
+        return;
+    }
+    let (a, b) = (random.below(count), random.below(count));
+    let p = random.below(case.threads());
+    let address = random.below(case.addresses());
+    match random.below(6) {
+        0 => case.orders[p].remove(a, b),
+        1 => case.orders[p].insert(a, b),
+        2 => {
+            case.orders[p].remove(a, b);
+            case.orders[p].insert(b, a);
+        }
+        3 => random.shuffle(&mut case.write_orders[address]),
+        4 => case.initial[address] = random.below(3) as u32,
+        _ => {
+            let value = case.events[b].value;
+            if !case.events[a].is_sync() {
+                case.events[a].value = value;
+            }
+        }
+    }
+}
+
+/// Any of the kinds of case above.
+pub fn any_case(random: &mut Random) -> Case {
+    let mut case = match random.below(10) {
+        0 => sequential(random),
+        1 => apart(random),
+        2 => sparse(random, None),
+        3 => {
+            let duty = random.pick(&Duty::ALL);
+            sparse(random, Some(duty))
+        }
+        4 => sparse(random, Some(Duty::Readers)),
+        5 => {
+            let case = sequential(random);
+            off(random, case)
+        }
+        6 => {
+            let case = sparse(random, None);
+            off(random, case)
+        }
+        _ => tiny(random),
+    };
+    let length = if random.once_in(4) { NAME } else { 3 };
+    let length = random.below(length + 1);
+    case.name = random.bytes(length);
+    case
+}
+
+/// A record, now and then with bytes behind it or damaged.
+pub fn any_record(random: &mut Random) -> Vec<u8> {
+    let case = any_case(random);
+    let mut record = write::record(&case);
+    if random.once_in(4) {
+        record = damaged(random, &case);
+    }
+    if random.once_in(4) {
+        let behind = random.below(6);
+        record.extend(random.bytes(behind));
+    }
+    record
+}

@@ -1,0 +1,67 @@
+//! Bytes that are no records.
+
+use crate::case::Case;
+use crate::limits::{GROUPS, VALUE};
+use crate::random::Random;
+use crate::write;
+
+/// Bytes that most likely are no record, made from the case's.
+pub fn damaged(random: &mut Random, case: &Case) -> Vec<u8> {
+    let mut record = write::record(case);
+    let at = random.below(record.len());
+    match random.below(7) {
+        0 => record.truncate(at),
+        1 => record[at] = random.byte(),
+        2 => record[at] = record[at].wrapping_add(1),
+        3 => {
+            record.remove(at);
+        }
+        4 => record.insert(at, random.byte()),
+        5 => {
+            let count = random.below(40);
+            record = random.bytes(count);
+        }
+        _ => record = with_odd_number(random, case),
+    }
+    record
+}
+
+/// The record with one number exchanged for odd bytes, and perhaps cut behind it.
+fn with_odd_number(random: &mut Random, case: &Case) -> Vec<u8> {
+    let numbers = write::numbers(case);
+    let odd = random.below(numbers.len());
+    let mut record = Vec::new();
+    for (i, &value) in numbers.iter().enumerate() {
+        if i == odd {
+            record.extend(odd_number(random, value));
+            if random.once_in(4) {
+                return record;
+            }
+        } else {
+            record.extend(write::number(value.into()));
+        }
+    }
+    record.extend(&case.name);
+    record
+}
+
+/// A number that is too long, too great, unfinished or not in its shortest form.
+fn odd_number(random: &mut Random, value: u32) -> Vec<u8> {
+    let mut bytes = write::number(value.into());
+    let more = |byte: &mut u8| *byte |= 128;
+    match random.below(5) {
+        0 => {
+            bytes.iter_mut().for_each(more);
+            bytes.push(0);
+        }
+        1 => {
+            bytes.iter_mut().for_each(more);
+            bytes.resize(GROUPS, 128);
+            bytes.push(random.byte());
+        }
+        2 => bytes.iter_mut().for_each(more),
+        3 => bytes = write::number(u64::from(VALUE) + random.below(3) as u64),
+        _ => bytes = write::number(random.below(VALUE as usize) as u64),
+    }
+    bytes
+}

@@ -1,0 +1,167 @@
+//! Executions whose threads see no more than they must.
+
+use super::program::{any_program, interleaving, loads, own, source_in, value_in, write_in};
+use crate::case::{Case, Order};
+use crate::random::Random;
+
+/// The duties that a sparse order is given; each one left out may break rules.
+#[derive(Clone, Copy, PartialEq, Eq)]
+pub enum Duty {
+    Transitive,
+    OwnEvents,
+    Values,
+    Barrier,
+    Readers,
+}
+
+impl Duty {
+    pub const ALL: [Duty; 5] = [
+        Duty::Transitive,
+        Duty::OwnEvents,
+        Duty::Values,
+        Duty::Barrier,
+        Duty::Readers,
+    ];
+}
+
+/// An execution in which each thread sees a few pairs of one sequence and those that the rules then
+/// ask for. With nothing left out it is accepted under both models.
+pub fn sparse(random: &mut Random, left_out: Option<Duty>) -> Case {
+    let sync_once_in = random.from_to(2, 6);
+    let mut case = any_program(random, sync_once_in);
+    let sequence = interleaving(random, &case);
+    write_in(&mut case, &sequence);
+    for l in loads(&case) {
+        case.events[l].value = value_in(&case, &sequence, l);
+    }
+    let seen = Order::total(&sequence);
+    let rarity = random.from_to(2, 60);
+    for order in &mut case.orders {
+        for (a, b) in seen.pairs(sequence.len()) {
+            if random.once_in(rarity) {
+                order.insert(a, b);
+            }
+        }
+    }
+    Filling {
+        sequence,
+        seen,
+        left_out,
+    }
+    .fill(&mut case);
+    case
+}
+
+/// Adds pairs of one sequence until the rules hold.
+struct Filling {
+    sequence: Vec<usize>,
+    seen: Order,
+    left_out: Option<Duty>,
+}
+
+impl Filling {
+    fn fill(&self, case: &mut Case) {
+        let mut last = Vec::new();
+        while last != case.orders {
+            last = case.orders.clone();
+            for duty in Duty::ALL {
+                if self.left_out != Some(duty) {
+                    self.meet(duty, case);
+                }
+            }
+        }
+    }
+
+    fn meet(&self, duty: Duty, case: &mut Case) {
+        match duty {
+            Duty::Transitive => case.orders.iter_mut().for_each(Order::close),
+            Duty::OwnEvents => self.own_events(case),
+            Duty::Values => self.values(case),
+            Duty::Barrier => self.barriers(case),
+            Duty::Readers => self.readers(case),
+        }
+    }
+
+    /// Inserts the pair of a and b that the sequence has.
+    fn relate(&self, order: &mut Order, a: usize, b: usize) {
+        if self.seen.has(a, b) {
+            order.insert(a, b);
+        } else if a != b {
+            order.insert(b, a);
+        }
+    }
+
+    fn own_events(&self, case: &mut Case) {
+        for p in 0..case.threads() {
+            for a in own(case, p) {
+                for b in own(case, p) {
+                    self.relate(&mut case.orders[p], a, b);
+                }
+            }
+        }
+    }
+
+    fn values(&self, case: &mut Case) {
+        let count = case.events.len();
+        for p in 0..case.threads() {
+            for l in loads(case) {
+                let pairs = case.orders[p].pairs(count);
+                let sees = |e| pairs.iter().any(|&(a, b)| a == e || b == e);
+                if case.events[l].thread != p && !sees(l) {
+                    continue;
+                }
+                let source = source_in(case, &self.sequence, l);
+                for s in case.stores_to(case.events[l].address) {
+                    if sees(s) || source == Some(s) {
+                        self.relate(&mut case.orders[p], s, l);
+                        self.relate(&mut case.orders[p], s, source.unwrap_or(s));
+                    }
+                }
+            }
+        }
+    }
+
+    fn barriers(&self, case: &mut Case) {
+        for (e, f) in before_barriers(case) {
+            let p = case.events[f].thread;
+            let later: Vec<usize> = own(case, p)
+                .into_iter()
+                .filter(|&d| case.orders[p].has(f, d))
+                .collect();
+            insert_everywhere(case, e, &later);
+        }
+    }
+
+    fn readers(&self, case: &mut Case) {
+        for (e, f) in before_barriers(case) {
+            let p = case.events[f].thread;
+            for l in loads(case) {
+                let home = case.events[l].thread;
+                let source = source_in(case, &self.sequence, l);
+                let after = |s: usize| case.events[s].thread == p && case.orders[p].has(f, s);
+                if source.is_some_and(after) {
+                    let all = 0..case.events.len();
+                    let later: Vec<usize> = all.filter(|&d| case.orders[home].has(l, d)).collect();
+                    insert_everywhere(case, e, &later);
+                }
+            }
+        }
+    }
+}
+
+/// The pairs of an event and a sync that stand so in the order of the sync's thread.
+fn before_barriers(case: &Case) -> Vec<(usize, usize)> {
+    let syncs = (0..case.events.len()).filter(|&f| case.events[f].is_sync());
+    let pairs = syncs.flat_map(|f| (0..case.events.len()).map(move |e| (e, f)));
+    pairs
+        .filter(|&(e, f)| case.orders[case.events[f].thread].has(e, f))
+        .collect()
+}
+
+fn insert_everywhere(case: &mut Case, e: usize, later: &[usize]) {
+    for order in &mut case.orders {
+        for &d in later {
+            order.insert(e, d);
+        }
+    }
+}

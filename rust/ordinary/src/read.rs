@@ -1,0 +1,162 @@
+//! Bytes to a case.
+
+use crate::answer::{Answer, Refusal, ENDS, FORM, MISPLACED, RANGE};
+use crate::case::{Case, Event, Kind, Order};
+use crate::limits::{ADDRESSES, EDITION, EVENTS, GROUPS, NAME, THREADS, VALUE};
+
+/// A case, and how many bytes its record takes.
+#[derive(Clone, Debug, PartialEq, Eq)]
+pub struct Reading {
+    pub case: Case,
+    pub length: usize,
+}
+
+/// Reads the record at the front of the bytes.
+pub fn read(bytes: &[u8]) -> Result<Reading, Refusal> {
+    let mut reader = Reader { bytes, place: 0 };
+    let case = reader.case()?;
+    let length = reader.place;
+    Ok(Reading { case, length })
+}
+
+/// What reading the bytes answers.
+pub fn answer(bytes: &[u8]) -> Answer {
+    match read(bytes) {
+        Ok(reading) => Answer::done(reading.length),
+        Err(refusal) => refusal.into(),
+    }
+}
+
+/// The name as the record's own bytes; empty when the record is refused.
+pub fn name(bytes: &[u8]) -> &[u8] {
+    match read(bytes) {
+        Ok(reading) => &bytes[reading.length - reading.case.name.len()..reading.length],
+        Err(_) => &[],
+    }
+}
+
+struct Reader<'a> {
+    bytes: &'a [u8],
+    place: usize,
+}
+
+impl Reader<'_> {
+    /// A number from `least` to `most`.
+    fn number(&mut self, least: u32, most: u32) -> Result<u32, Refusal> {
+        let start = self.place;
+        let refuse = |number| Refusal {
+            number,
+            place: start,
+        };
+        let mut value = 0u64;
+        for group in 0..GROUPS {
+            let &byte = self.bytes.get(self.place).ok_or(refuse(ENDS))?;
+            self.place += 1;
+            value += u64::from(byte % 128) << (7 * group);
+            if byte < 128 {
+                if group > 0 && byte == 0 {
+                    return Err(refuse(FORM));
+                }
+                if value < u64::from(least) || value > u64::from(most) {
+                    return Err(refuse(RANGE));
+                }
+                return Ok(value as u32);
+            }
+        }
+        Err(refuse(FORM))
+    }
+
+    /// A count or label from `least` to `most`.
+    fn count(&mut self, least: usize, most: usize) -> Result<usize, Refusal> {
+        Ok(self.number(least as u32, most as u32)? as usize)
+    }
+
+    /// A label below `count`, which is above 0.
+    fn below(&mut self, count: usize) -> Result<usize, Refusal> {
+        self.count(0, count - 1)
+    }
+
+    fn case(&mut self) -> Result<Case, Refusal> {
+        let edition = self.number(EDITION, EDITION)?;
+        let threads = self.count(1, THREADS)?;
+        let addresses = self.count(1, ADDRESSES)?;
+        let mut case = Case::empty(threads, addresses);
+        case.edition = edition;
+        for value in &mut case.initial {
+            *value = self.number(0, VALUE)?;
+        }
+        for _ in 0..self.count(0, EVENTS)? {
+            let event = self.event(threads, addresses)?;
+            case.events.push(event);
+        }
+        for address in 0..addresses {
+            case.write_orders[address] = self.write_order(&case, address)?;
+        }
+        for thread in 0..threads {
+            case.orders[thread] = self.order(case.events.len())?;
+        }
+        case.name = self.name()?;
+        Ok(case)
+    }
+
+    fn event(&mut self, threads: usize, addresses: usize) -> Result<Event, Refusal> {
+        let kind = Kind::ALL[self.below(Kind::ALL.len())?];
+        let thread = self.below(threads)?;
+        if kind == Kind::Sync {
+            return Ok(Event::sync(thread));
+        }
+        let address = self.below(addresses)?;
+        let value = self.number(0, VALUE)?;
+        Ok(Event {
+            kind,
+            thread,
+            address,
+            value,
+        })
+    }
+
+    fn write_order(&mut self, case: &Case, address: usize) -> Result<Vec<usize>, Refusal> {
+        let mut listed = Vec::new();
+        for _ in case.stores_to(address) {
+            let place = self.place;
+            let e = self.below(case.events.len())?;
+            if !case.events[e].stores(address) || listed.contains(&e) {
+                return Err(Refusal {
+                    number: MISPLACED,
+                    place,
+                });
+            }
+            listed.push(e);
+        }
+        Ok(listed)
+    }
+
+    fn order(&mut self, events: usize) -> Result<Order, Refusal> {
+        let mut order = Order::new();
+        let mut last = None;
+        for _ in 0..self.count(0, events * events)? {
+            let place = self.place;
+            let pair = (self.below(events)?, self.below(events)?);
+            if last.is_some_and(|last| pair <= last) {
+                return Err(Refusal {
+                    number: MISPLACED,
+                    place,
+                });
+            }
+            order.insert(pair.0, pair.1);
+            last = Some(pair);
+        }
+        Ok(order)
+    }
+
+    fn name(&mut self) -> Result<Vec<u8>, Refusal> {
+        let length = self.count(0, NAME)?;
+        let start = self.place;
+        let bytes = self.bytes.get(start..start + length).ok_or(Refusal {
+            number: ENDS,
+            place: start,
+        })?;
+        self.place += length;
+        Ok(bytes.to_vec())
+    }
+}

@@ -1,0 +1,58 @@
+//! The library's answers to the records in `examples/`, and the examples of how to call it.
+
+mod common;
+
+use common::plain;
+use ordinary::judge::{judge, PPCS, PPCW};
+use std::path::{Path, PathBuf};
+use std::process::Command;
+use std::{env, fs};
+
+fn folder() -> PathBuf {
+    Path::new(env!("CARGO_MANIFEST_DIR")).join("../examples")
+}
+
+/// Runs a command that must end well, and hands back what it printed.
+fn output(command: &mut Command) -> String {
+    let output = command.output().expect("it starts");
+    let errors = String::from_utf8_lossy(&output.stderr);
+    assert!(output.status.success(), "{command:?}: {errors}");
+    String::from_utf8(output.stdout).expect("text")
+}
+
+#[test]
+fn records() {
+    let mut judged = 0;
+    for entry in fs::read_dir(folder()).expect("examples") {
+        let path = entry.expect("an entry").path();
+        if path.extension().is_some_and(|end| end == "litmus") {
+            let record = fs::read(&path).expect("a record");
+            for model in [PPCW, PPCS] {
+                let answer = plain(litmus::judge_raw(&record, model));
+                assert_eq!(answer, judge(&record, model), "{}", path.display());
+            }
+            judged += 1;
+        }
+    }
+    assert!(judged > 10, "{judged} records found");
+}
+
+#[test]
+fn rust_example() {
+    let mut cargo = Command::new(env!("CARGO"));
+    cargo.args([
+        "run",
+        "--quiet",
+        "--offline",
+        "--example",
+        "judge_one",
+        "--",
+    ]);
+    cargo.current_dir(env!("CARGO_MANIFEST_DIR"));
+    assert_eq!(
+        output(cargo.arg(folder().join("dekker.litmus"))),
+        "Dekker\n\
+         PPCw: possible: finals 1 1 0 0\n\
+         PPCs: not possible: rule 16: a load's value is not the one of the latest store before it\n"
+    );
+}

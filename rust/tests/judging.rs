@@ -1,0 +1,64 @@
+//! Judging: all fields agree on accepted cases, cases a little off, and damaged bytes.
+
+mod common;
+
+use common::plain;
+use ordinary::generate;
+use ordinary::judge::{judge, PPCS, PPCW};
+use ordinary::limits::EVENTS;
+use ordinary::random::Random;
+use ordinary::tally::{model_name, Tally};
+use ordinary::{rows, write};
+
+const INPUTS: usize = 200_000;
+
+fn compare(record: &[u8], model: u64) -> u32 {
+    let expected = judge(record, model);
+    let answer = plain(litmus::judge_raw(record, model));
+    assert_eq!(answer, expected, "{record:?} under {model}");
+    expected.number
+}
+
+#[test]
+fn generated_inputs() {
+    let mut random = Random::new(20);
+    let mut tally = Tally::default();
+    for _ in 0..INPUTS {
+        let record = generate::any_record(&mut random);
+        for model in [PPCW, PPCS] {
+            tally.add(model_name(model), compare(&record, model));
+        }
+        let other = random.any_number();
+        tally.add(model_name(other), compare(&record, other));
+    }
+    println!("how often each number came up in {INPUTS} inputs:\n{tally}");
+    tally.assert_judged(100);
+}
+
+/// Accepted executions of every size, as they are and a little off.
+#[test]
+fn every_size() {
+    let mut random = Random::new(21);
+    for count in 0..=EVENTS {
+        for _ in 0..40 {
+            let case = generate::full(&mut random, count);
+            let record = write::record(&case);
+            assert_eq!([PPCW, PPCS].map(|model| compare(&record, model)), [0, 0]);
+            let record = write::record(&generate::off(&mut random, case));
+            for model in [PPCW, PPCS] {
+                compare(&record, model);
+                assert_eq!(rows::judge(&record, model), judge(&record, model));
+            }
+        }
+    }
+}
+
+/// The model comes first, whatever the bytes are.
+#[test]
+fn other_models() {
+    for model in [PPCS + 1, 1 << 32, u64::MAX - 1, u64::MAX] {
+        for record in [&[][..], &[9, 9], &[1, 1, 1, 0, 0, 0, 0]] {
+            assert_eq!(compare(record, model), ordinary::answer::MODEL);
+        }
+    }
+}

@@ -1,0 +1,202 @@
+//! Renumbering: lists of calls through the library, beside two composed permutations.
+
+mod common;
+
+use common::plain;
+use ordinary::answer::{MODEL, PERMUTATION, ROOM};
+use ordinary::generate;
+use ordinary::judge::{judge, RULES};
+use ordinary::limits::{ADDRESSES, RECORD};
+use ordinary::permutation::{composite, fits, images, COUNT};
+use ordinary::random::Random;
+use ordinary::renumber::{moved, relabel, renumber};
+use ordinary::tally::Tally;
+use ordinary::{write, Answer, Case};
+
+const LISTS: usize = 20_000;
+const MOST_CALLS: usize = 12;
+
+/// What is known without looking at any record: the starting record's counts and length, and the
+/// composites of all accepted renumberings.
+struct Composed {
+    threads: usize,
+    addresses: usize,
+    length: usize,
+    by_threads: u64,
+    by_addresses: u64,
+}
+
+impl Composed {
+    fn new(case: &Case) -> Composed {
+        Composed {
+            threads: case.threads(),
+            addresses: case.addresses(),
+            length: write::size(case),
+            by_threads: 0,
+            by_addresses: 0,
+        }
+    }
+
+    /// What a renumbering must answer; an accepted one is taken in.
+    fn renumber(&mut self, q: u64, r: u64, room: usize, at: u64) -> Answer {
+        if !fits(q, self.threads) || !fits(r, self.addresses) {
+            return Answer::refused(PERMUTATION);
+        }
+        if at > room as u64 || room as u64 - at < self.length as u64 {
+            return Answer::refused(ROOM);
+        }
+        self.by_threads = composite(self.by_threads, q);
+        self.by_addresses = composite(self.by_addresses, r);
+        Answer::done(self.length)
+    }
+
+    fn moved_finals(&self, finals: [u32; ADDRESSES]) -> [u32; ADDRESSES] {
+        let moved = moved(&finals, images(self.by_addresses));
+        moved.try_into().expect("one for each address")
+    }
+}
+
+/// A list of calls under way.
+struct List {
+    case: Case,
+    start: Vec<u8>,
+    composed: Composed,
+    record: Vec<u8>,
+}
+
+impl List {
+    fn new(random: &mut Random) -> List {
+        let case = generate::any_case(random);
+        let start = write::record(&case);
+        List {
+            composed: Composed::new(&case),
+            record: start.clone(),
+            case,
+            start,
+        }
+    }
+
+    /// What the rule makes of the starting record.
+    fn by_the_rule(&self) -> Vec<u8> {
+        let Composed {
+            by_threads,
+            by_addresses,
+            ..
+        } = self.composed;
+        write::record(&relabel(&self.case, by_threads, by_addresses))
+    }
+
+    /// The record with any bytes behind it.
+    fn handed(&self, random: &mut Random) -> Vec<u8> {
+        let behind = random.below(9);
+        [self.record.clone(), random.bytes(behind)].concat()
+    }
+
+    fn judge(&mut self, random: &mut Random) -> u32 {
+        let model = if random.once_in(4) {
+            random.any_number()
+        } else {
+            random.below(2) as u64
+        };
+        let mut expected = judge(&self.start, model);
+        expected.finals = self.composed.moved_finals(expected.finals);
+        let handed = self.handed(random);
+        let answer = plain(litmus::judge_raw(&handed, model));
+        assert_eq!(answer, expected, "{handed:?} under {model}");
+        answer.number
+    }
+
+    fn renumber(&mut self, random: &mut Random) -> u32 {
+        let q = any_permutation(random, self.case.threads());
+        let r = any_permutation(random, self.case.addresses());
+        let (buffer, at) = any_buffer(random, self.start.len());
+        let expected = self.composed.renumber(q, r, buffer.len(), at);
+        let mut content = buffer.clone();
+        if expected.number == 0 {
+            let at = at as usize;
+            content[at..at + self.start.len()].copy_from_slice(&self.by_the_rule());
+        }
+        let handed = self.handed(random);
+        let mut out = buffer;
+        let answer = plain(litmus::renumber_raw(&handed, q, r, &mut out, at));
+        let call = format!("{handed:?} by {q} and {r} from {at}");
+        assert_eq!(answer, expected, "{call}");
+        assert_eq!(out, content, "{call}");
+        if answer.number == 0 {
+            self.record = out[at as usize..][..answer.length].to_vec();
+        }
+        answer.number
+    }
+}
+
+/// Half of the time one that fits.
+fn any_permutation(random: &mut Random, labels: usize) -> u64 {
+    let fitting: Vec<u64> = (0..COUNT).filter(|&q| fits(q, labels)).collect();
+    match random.below(8) {
+        0..=5 => random.pick(&fitting),
+        6 => random.below(COUNT as usize + 2) as u64,
+        _ => random.any_number(),
+    }
+}
+
+/// A buffer of any length and content, and a place, most often with enough room.
+fn any_buffer(random: &mut Random, length: usize) -> (Vec<u8>, u64) {
+    let room = match random.below(4) {
+        0 => random.below(length + 4),
+        _ => length + random.below(20),
+    };
+    let at = match random.below(5) {
+        0 => random.any_number(),
+        1 => random.below(room + 2) as u64,
+        _ => random.below(room.saturating_sub(length) + 1) as u64,
+    };
+    (random.bytes(room), at)
+}
+
+#[test]
+fn lists_of_calls() {
+    let mut random = Random::new(30);
+    let mut tally = Tally::default();
+    for _ in 0..LISTS {
+        let mut list = List::new(&mut random);
+        for _ in 0..random.below(MOST_CALLS + 1) {
+            match random.once_in(2) {
+                true => tally.add("judging", list.judge(&mut random)),
+                false => tally.add("renumbering", list.renumber(&mut random)),
+            }
+        }
+        assert_eq!(list.record, list.by_the_rule());
+    }
+    println!("{LISTS} lists of calls:\n{tally}");
+    tally.assert_each("renumbering", [0, PERMUTATION, ROOM], 1_000);
+    tally.assert_each("judging", [0, MODEL], 1_000);
+    tally.assert_each("judging", RULES, 50);
+}
+
+/// Records as they come, damaged ones too: all answers and the whole buffer agree.
+#[test]
+fn any_bytes() {
+    let mut random = Random::new(31);
+    for _ in 0..40_000 {
+        let record = generate::any_record(&mut random);
+        let [q, r] = [0; 2].map(|_| random.any_number());
+        let room = record.len().min(RECORD) + 4;
+        let mut expected = random.bytes(room);
+        let mut out = expected.clone();
+        let at = random.below(6);
+        let answer = renumber(&record, q, r, &mut expected, at);
+        let found = litmus::renumber_raw(&record, q, r, &mut out, at as u64);
+        assert_eq!(plain(found), answer, "{record:?} by {q} and {r}");
+        assert_eq!(out, expected, "{record:?} by {q} and {r}");
+    }
+}
+
+#[test]
+fn composites() {
+    let numbers: Vec<u64> = (0..COUNT + 2).chain([1 << 32, u64::MAX]).collect();
+    for &q in &numbers {
+        for &r in &numbers {
+            assert_eq!(litmus::composite(q, r), composite(q, r), "{q} then {r}");
+        }
+    }
+}

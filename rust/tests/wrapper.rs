@@ -1,0 +1,70 @@
+//! The wrapper's own types say what the library's answers say.
+
+use litmus::{judge, judge_raw, meaning, read, read_raw, renumber, Model, Refusal, Rule, Verdict};
+use ordinary::generate;
+use ordinary::judge::RULES;
+use ordinary::random::Random;
+use std::collections::BTreeSet;
+
+const SMALL: &[u8] = include_bytes!("../../examples/small.litmus");
+
+#[test]
+fn every_number_has_its_own_words() {
+    let numbers = (0..=7).chain(RULES);
+    let words: BTreeSet<&str> = numbers.clone().map(meaning).collect();
+    assert_eq!(words.len(), numbers.count());
+    assert!([8, 10, 19].iter().all(|&n| !words.contains(meaning(n))));
+}
+
+#[test]
+fn typed_answers_are_the_raw_ones() {
+    let mut random = Random::new(50);
+    for _ in 0..5_000 {
+        let record = generate::any_record(&mut random);
+        for model in [Model::PpcW, Model::PpcS] {
+            let raw = judge_raw(&record, model as u64);
+            let (number, place, length, finals) = match judge(&record, model) {
+                Ok(Verdict::Accepted { length, finals }) => (0, 0, length, finals),
+                Ok(Verdict::Broken { length, rule }) => (rule.0, 0, length, Default::default()),
+                Err(refusal) => (refusal.number, refusal.place, 0, Default::default()),
+            };
+            assert_eq!((raw.number, raw.finals), (number, finals));
+            assert_eq!((raw.place, raw.length), (place as u64, length as u64));
+        }
+        let raw = read_raw(&record);
+        match read(&record) {
+            Ok(length) => assert_eq!((raw.number, raw.length), (0, length as u64)),
+            Err(refusal) => assert_eq!(refusal, raw.into()),
+        }
+    }
+}
+
+#[test]
+fn renumbers_into_a_buffer() {
+    let mut out = [9; 24];
+    assert_eq!(renumber(SMALL, 0, 0, &mut out, 2), Ok(SMALL.len()));
+    assert_eq!(out, *[&[9; 2], SMALL, &[9; 3]].concat());
+    let refused = |number| Err(Refusal { number, place: 0 });
+    assert_eq!(renumber(SMALL, 6, 0, &mut out, 2), refused(5));
+    assert_eq!(renumber(SMALL, 0, 0, &mut out, 6), refused(6));
+}
+
+#[test]
+fn texts() {
+    let refusal = Refusal {
+        number: 3,
+        place: 4,
+    };
+    assert_eq!(
+        refusal.to_string(),
+        "refused with 3: a number is outside its range (byte 4)"
+    );
+    let refusal = Refusal {
+        number: 7,
+        place: 0,
+    };
+    assert_eq!(refusal.to_string(), "refused with 7: no such model");
+    let verdict = judge(SMALL, Model::PpcW).expect("readable");
+    assert_eq!(verdict.to_string(), "possible: finals 1 0 0 0");
+    assert!(Rule(14).to_string().starts_with("rule 14: "));
+}
