@@ -1,2 +1,3 @@
 pub mod Held
 pub mod Sound
+pub mod Stores

@@ -1,1 +1,16 @@
 pub mod Fits
+pub mod AllFrom
+pub mod ReadBack
+pub mod Exact
+pub mod ExactOrder
+pub mod ExactCase
+pub mod Faultless
+pub mod Bound
+pub mod Meaning
+pub mod NameBack
+pub mod Renamed
+pub mod Renumbered
+pub mod Composition
+pub mod Refits
+pub mod Claim
+pub mod Corollaries

@@ -1,0 +1,138 @@
+-- The case that a struct means, by the struct's arrays: its stores, its write orders and its fault.
+-- Assumes nothing.
+use Prim.Native.Nat.{ℕ, zero, suc, _+_, _*_, _≤_, _<_}
+use native.Mathlib.Omega.{arith}
+use mathlib.Core.Path.{_≡_, refl, sym, ap, ap₂, _∙_}
+use mathlib.Core.Bool.{Bool, true, false, not, cond, _&&_}
+use mathlib.Core.List.{List, [], _∷_, _++_}
+use lib.Dec.{eqb, leb, ltb}
+use lib.ListN.{length, getD}
+use borrow.Author.Tests.{eqb-true, leb-true, ltb-true, le-leb, lt-leb, not-true, not-false}
+use Rattle.finite.specs.Tests.{all, count}
+use Rattle.finite.specs.Lists.{table}
+use Rattle.finite.proofs.Tests.{and-l, and-r, count-same}
+use Rattle.finite.proofs.Lists.{table-get, table-same, table-length}
+use Rattle.model.specs.Limits.{leastEdition, mostEdition, mostThreads, mostAddresses, mostEvents, mostValue, mostName}
+use Rattle.model.specs.Case.{Event, noEvent, store, sync, bare}
+use Rattle.model.specs.Rules.{orElse}
+use Rattle.model.specs.Record.{member, storeTo}
+use Rattle.model.specs.Fault.{every, between, eventGood, firstFault, writeFault, writesFault, fault}
+use Rattle.case.specs.declared.Case.{Case as Held}
+use Rattle.case.specs.Held.{eventOf, eventsOf, caseOf}
+use Rattle.case.specs.Stores.{storeAt, writesAt}
+use Rattle.case.proofs.Faults.{every-table}
+use Rattle.case.proofs.WriteOrders.{first-fault}
+
+-- ---- stores
+-- a bare kind is no store
+event-store : (k t a v x : ℕ) → (eqb (eventOf k t a v .kind) store && eqb (eventOf k t a v .address) x) ≡ (eqb k store && eqb a x)
+unfolding eventOf
+event-store k t a v x = by (bare k) refl
+  where
+    by : (b : Bool) → bare k ≡ b →
+        let e : Event = cond b (record { kind = k; thread = t; address = 0; value = 0 }) (record { kind = k; thread = t; address = a; value = v }) in
+        (eqb (e .kind) store && eqb (e .address) x) ≡ (eqb k store && eqb a x)
+    by true h = rw (eqb-true k sync h)
+    by false h = refl
+
+pub store-same : (k : ℕ) (ks ts as′ vs : List ℕ) (x e : ℕ) → e < k → storeTo (eventsOf k ks ts as′ vs) x e ≡ storeAt ks as′ x e
+unfolding storeTo eventsOf storeAt
+store-same k ks ts as′ vs x e h =
+    ap (λ (v : Event). eqb (v .kind) store && eqb (v .address) x) (table-get k (λ e. eventOf (getD ks e 0) (getD ts e 0) (getD as′ e 0) (getD vs e 0)) e noEvent h)
+    ∙ event-store (getD ks e 0) (getD ts e 0) (getD as′ e 0) (getD vs e 0) x
+
+pub stores-same : (k : ℕ) (ks ts as′ vs : List ℕ) (x : ℕ) → count k (storeTo (eventsOf k ks ts as′ vs) x) ≡ count k (storeAt ks as′ x)
+stores-same k ks ts as′ vs x = count-same k _ _ (λ e h. store-same k ks ts as′ vs x e h)
+
+-- ---- write orders
+pub writes-of : (c : Held) → caseOf c .writes ≡ table 0 (c .addresses) (writesAt (c .kind) (c .address) (c .writes) (c .events))
+unfolding caseOf writesAt
+writes-of c =
+    table-same 0 (c .addresses) _ _
+    (λ x l h. ap (λ (n : ℕ). table 0 n (λ i. getD (c .writes) (x * mostEvents + i) 0)) (stores-same (c .events) (c .kind) (c .thread) (c .address) (c .value) x))
+
+-- the fault asks of events only
+write-fault-same : (k : ℕ) (mine mine′ : ℕ → Bool) → ((e : ℕ) → e < k → mine e ≡ mine′ e)
+    → (before w : List ℕ) → writeFault k mine before w ≡ writeFault k mine′ before w
+unfolding writeFault
+write-fault-same k mine mine′ f before [] = refl
+write-fault-same k mine mine′ f before (e ∷ w) =
+    by (ltb e k) (λ t. f e (ltb-true e k t)) (write-fault-same k mine mine′ f (before ++ (e ∷ [])) w)
+  where
+    by : (b : Bool) → (b ≡ true → mine e ≡ mine′ e) → {x y : ℕ} → x ≡ y
+        → orElse b 3 (orElse (mine e && not (member e before)) 4 x) ≡ orElse b 3 (orElse (mine′ e && not (member e before)) 4 y)
+    by true g h = ap₂ (λ (b : Bool) (z : ℕ). orElse (b && not (member e before)) 4 z) (g refl) h
+    by false g h = refl
+
+writes-fault-same : (k : ℕ) (mine mine′ : ℕ → ℕ → Bool) → ((x e : ℕ) → e < k → mine x e ≡ mine′ x e)
+    → (x : ℕ) (ws : List (List ℕ)) → writesFault k mine x ws ≡ writesFault k mine′ x ws
+unfolding writesFault
+writes-fault-same k mine mine′ f x [] = refl
+writes-fault-same k mine mine′ f x (w ∷ ws) =
+    ap₂ firstFault (write-fault-same k (mine x) (mine′ x) (λ e h. f x e h) [] w) (writes-fault-same k mine mine′ f (suc x) ws)
+
+-- ---- the fault
+else-and : (a b d : Bool) (x y : ℕ) → orElse a x (orElse b x (orElse d x y)) ≡ orElse (a && (b && d)) x y
+else-and true true d x y = refl
+else-and true false d x y = refl
+else-and false b d x y = refl
+
+module _ (c : Held) where
+  abbrev head : Bool
+  head = between leastEdition mostEdition (c .edition) && (between 1 mostThreads (c .threads) && between 1 mostAddresses (c .addresses))
+
+  abbrev initials : Bool
+  initials = all (c .addresses) (λ x. leb (getD (c .initial) x 0) mostValue)
+
+  abbrev listing : Bool
+  listing = all (c .events) (λ e. eventGood (c .threads) (c .addresses) (eventOf (getD (c .kind) e 0) (getD (c .thread) e 0) (getD (c .address) e 0) (getD (c .value) e 0)))
+
+  abbrev orders : ℕ
+  orders = writesFault (c .events) (storeAt (c .kind) (c .address)) 0 (table 0 (c .addresses) (writesAt (c .kind) (c .address) (c .writes) (c .events)))
+
+  fault-by : fault (caseOf c)
+      ≡ orElse head 3 (orElse initials 3 (orElse (leb (c .events) mostEvents) 3 (orElse listing 3 (firstFault orders (orElse (leb (c .namelength) mostName) 3 0)))))
+  unfolding fault caseOf eventsOf
+  fault-by =
+      else-and (between leastEdition mostEdition (c .edition)) (between 1 mostThreads (c .threads)) (between 1 mostAddresses (c .addresses)) 3 _
+      ∙ ap (orElse head 3) (
+      ap₂ (λ (b : Bool) (y : ℕ). orElse b 3 y) (every-table (λ v. leb v mostValue) (c .addresses) _) (
+      ap (orElse (leb (c .events) mostEvents) 3) (
+      ap₂ (λ (b : Bool) (y : ℕ). orElse b 3 y) (every-table (eventGood (c .threads) (c .addresses)) (c .events) _) (
+      ap₂ firstFault
+      (writes-fault-same (c .events) _ (storeAt (c .kind) (c .address)) (λ x e h. store-same (c .events) (c .kind) (c .thread) (c .address) (c .value) x e h) 0 (caseOf c .writes)
+      ∙ ap (writesFault (c .events) (storeAt (c .kind) (c .address)) 0) (writes-of c))
+      (ap (λ (i : ℕ). orElse (leb i mostName) 3 0) (table-length 0 (c .namelength) (λ i. getD (c .name) i 0)))))))
+
+  -- the ways through `fault`
+  module _ (h : Bool) (eh : h ≡ head) where
+    pub bad-head : not h ≡ true → 3 ≡ fault (caseOf c)
+    bad-head th = rw (fault-by, ← eh, not-true h th)
+
+    pub few-addresses : not h ≡ false → c .addresses ≤ mostAddresses
+    few-addresses th = leb-true _ _ (and-r (leb 1 (c .addresses)) _ (and-r (between 1 mostThreads (c .threads)) _ (and-r (between leastEdition mostEdition (c .edition)) _ (sym eh ∙ not-false h th))))
+
+    module _ (th : not h ≡ false) (i : Bool) (ei : i ≡ initials) where
+      pub bad-initial : not i ≡ true → 3 ≡ fault (caseOf c)
+      bad-initial ti = rw (fault-by, ← eh, not-false h th, ← ei, not-true i ti)
+
+      module _ (ti : not i ≡ false) where
+        pub many-events : mostEvents < c .events → 3 ≡ fault (caseOf c)
+        many-events k = rw (fault-by, ← eh, not-false h th, ← ei, not-false i ti, lt-leb (c .events) mostEvents k)
+
+        module _ (k : c .events ≤ mostEvents) (l : Bool) (el : l ≡ listing) where
+          pub bad-listing : not l ≡ true → 3 ≡ fault (caseOf c)
+          bad-listing tl = rw (fault-by, ← eh, not-false h th, ← ei, not-false i ti, le-leb (c .events) mostEvents k, ← el, not-true l tl)
+
+          module _ (tl : not l ≡ false) (w : ℕ) (ew : w ≡ orders) where
+            from-writes : fault (caseOf c) ≡ firstFault w (orElse (leb (c .namelength) mostName) 3 0)
+            from-writes = rw (fault-by, ← eh, not-false h th, ← ei, not-false i ti, le-leb (c .events) mostEvents k, ← el, not-false l tl, ← ew)
+
+            pub bad-writes : (w ≡ 0 → ⊥) → w ≡ fault (caseOf c)
+            bad-writes n = sym (from-writes ∙ first-fault w _ n)
+
+            pub long-name : w ≡ 0 → mostName < c .namelength → 3 ≡ fault (caseOf c)
+            long-name z n = rw (from-writes, z, lt-leb (c .namelength) mostName n)
+
+            pub no-fault : w ≡ 0 → c .namelength ≤ mostName → 0 ≡ fault (caseOf c)
+            no-fault z n = rw (from-writes, z, le-leb (c .namelength) mostName n)

@@ -1,0 +1,244 @@
+-- A record is bytes, and not longer than the limits allow.
+-- Assumes nothing.
+use Prim.Native.Nat.{ℕ, zero, suc, _+_, _-_, _*_, _/_, _%_, _^_, _≤_, _<_}
+use native.Mathlib.Nat.{mul-le-mul, mul-le-mul-right, zero-mul, suc-mul, add-mul, le-refl, le-trans, div-lt-iff-lt-mul, pow-suc}
+use native.Mathlib.Omega.{arith}
+use mathlib.Core.Path.{_≡_, refl, sym, ap, _∙_}
+use mathlib.Core.Bool.{Bool, true, false, not, cond, _&&_}
+use mathlib.Core.List.{List, [], _∷_, _++_}
+use lib.Dec.{eqb, ltb, lit<}
+use lib.ListN.{length, getD, length-append}
+use borrow.Author.Tests.{ltb-true, ltb-false, eqb-true, ne-eqb}
+use Rattle.finite.specs.Tests.{count, tick}
+use Rattle.finite.specs.Lists.{each}
+use Rattle.finite.proofs.Tests.{and-r}
+use Rattle.number.specs.Number.{groups, encodeBy, encode}
+use Rattle.number.proofs.Encoding.{fuel-any, encode-low, encode-high}
+use Rattle.model.specs.Limits.{mostEdition, mostThreads, mostAddresses, mostEvents, mostValue, mostName}
+use Rattle.model.specs.Case.{Case, Event, noEvent, store, mostKind, bare}
+use Rattle.model.specs.Record.{Pair, storeTo}
+use Rattle.model.specs.Written.{eventBytes, pairBytes, rowsPairs, orderBytes, recordOf}
+use Rattle.model.specs.Bound.{size, mostEventBytes, mostOrderBytes, mostBytes}
+use Rattle.laws.proofs.Fits.{All, Bytes, EventFits, WriteFits, WritesFit, Fits}
+use Rattle.laws.proofs.AllFrom.{WritesFrom, writes-from}
+use Rattle.laws.proofs.ReadBack.{all-map, Rising, rising-rows, few-pairs}
+
+-- ---- a number
+
+long-by : (g v w : ℕ) → v ≤ w → length (encodeBy g v) ≤ length (encodeBy g w)
+unfolding encodeBy
+long-by zero v w h = le-refl 1
+long-by (suc g) v w h = go (ltb v 128) (ltb w 128) refl refl (long-by g (v / 128) (w / 128))
+  where
+    go : (x y : Bool) → ltb v 128 ≡ x → ltb w 128 ≡ y → (v / 128 ≤ w / 128 → length (encodeBy g (v / 128)) ≤ length (encodeBy g (w / 128)))
+        → length (cond x (v ∷ []) ((128 + v % 128) ∷ encodeBy g (v / 128))) ≤ length (cond y (w ∷ []) ((128 + w % 128) ∷ encodeBy g (w / 128)))
+    go true true p q ih = le-refl 1
+    go true false p q ih = omega arith
+    go false true p q ih = absurd (omega (arith, ltb-false v 128 p, ltb-true w 128 q))
+    go false false p q ih = omega (arith, ih (omega arith))
+
+pub size-mono : (v w : ℕ) → v ≤ w → size v ≤ size w
+unfolding encode
+size-mono v w h = rw (fuel-any v w v (le-refl v) h) (long-by w v w h)
+
+bytes-by : (g v : ℕ) → v ≤ g → Bytes (encodeBy g v)
+unfolding encodeBy
+bytes-by zero v h = (omega arith, tt)
+bytes-by (suc g) v h = go (ltb v 128) refl (bytes-by g (v / 128))
+  where
+    go : (x : Bool) → ltb v 128 ≡ x → (v / 128 ≤ g → Bytes (encodeBy g (v / 128))) → Bytes (cond x (v ∷ []) ((128 + v % 128) ∷ encodeBy g (v / 128)))
+    go true p ih = (omega (arith, ltb-true v 128 p), tt)
+    go false p ih = (omega arith, ih (omega (arith, ltb-false v 128 p)))
+
+pub encode-bytes : (v : ℕ) → Bytes (encode v)
+unfolding encode
+encode-bytes v = bytes-by v v (le-refl v)
+
+-- ---- field by field
+
+pub all-append : {A : Type 0} (P : A → Type 0) (s t : List A) → All P s → All P t → All P (s ++ t)
+all-append P [] t h l = l
+all-append P (a ∷ s) t h l = (h .0, all-append P s t (h .1) l)
+
+-- bytes, at most n of them
+record Few (bs : List ℕ) (n : ℕ) : Type 0 where
+  most : length bs ≤ n
+  bytes : Bytes bs
+
+infixr 20 _then_
+_then_ : {as′ bs : List ℕ} {x y : ℕ} → Few as′ x → Few bs y → Few (as′ ++ bs) (x + y)
+_then_ {as′} {bs} p q = record { most = rw length-append (omega (arith, p .most, q .most)); bytes = all-append _ as′ bs (p .bytes) (q .bytes) }
+
+few-up-to : (v w : ℕ) → v ≤ w → Few (encode v) (size w)
+few-up-to v w h = record { most = size-mono v w h; bytes = encode-bytes v }
+
+few-each : {A : Type 0} (enc : A → List ℕ) (b : ℕ) (xs : List A) → All (λ x. Few (enc x) b) xs → (n : ℕ) → length xs ≤ n → Few (each enc xs) (n * b)
+unfolding each
+few-each enc b [] h n l = record { most = omega arith; bytes = tt }
+few-each enc b (x ∷ xs) h n l =
+    let rest : Few (each enc xs) ((n - 1) * b) = few-each enc b xs (h .1) (n - 1) (omega arith) in
+    let n′ : suc (n - 1) ≡ n = omega arith in
+    let whole : n * b ≡ (n - 1) * b + b = ap (λ (z : ℕ). z * b) (sym n′) ∙ suc-mul (n - 1) b in
+    record { most = rw length-append (omega (arith, h .0 .most, rest .most)); bytes = all-append _ (enc x) (each enc xs) (h .0 .bytes) (rest .bytes) }
+
+few-event : (n m : ℕ) (e : Event) → n ≤ mostThreads → m ≤ mostAddresses → EventFits n m e → Few (eventBytes e) mostEventBytes
+unfolding eventBytes mostEventBytes
+few-event n m e hn hm f =
+    few-up-to (e .kind) mostKind (f .kind) then few-up-to (e .thread) (mostThreads - 1) (omega (arith, f .thread)) then go (bare (e .kind)) refl
+  where
+    go : (x : Bool) → bare (e .kind) ≡ x → Few (cond x [] (encode (e .address) ++ encode (e .value))) (size (mostAddresses - 1) + size mostValue)
+    go true p = record { most = omega arith; bytes = tt }
+    go false p =
+        few-up-to (e .address) (mostAddresses - 1) (omega (arith, f .address p)) then few-up-to (e .value) mostValue (f .value p)
+
+-- ---- each event is a store to one address at most
+
+module _ (es : List Event) where
+  -- the stores below k to i addresses from x on, and those of them that e is
+  abbrev stores : (x i k : ℕ) → ℕ
+  stores x zero k = 0
+  stores x (suc i) k = count k (storeTo es x) + stores (suc x) i k
+
+  abbrev ticks : (x i e : ℕ) → ℕ
+  ticks x zero e = 0
+  ticks x (suc i) e = tick (storeTo es x e) + ticks (suc x) i e
+
+  no-store : (x i : ℕ) → stores x i 0 ≡ 0
+  unfolding count
+  no-store x zero = refl
+  no-store x (suc i) = omega (arith, no-store (suc x) i)
+
+  one-store : (x i k : ℕ) → stores x i (suc k) ≡ stores x i k + ticks x i k
+  unfolding count
+  one-store x zero k = refl
+  one-store x (suc i) k = omega (arith, one-store (suc x) i k)
+
+  abbrev addressOf : ℕ → ℕ
+  addressOf e = getD es e noEvent .address
+
+  other-address : (x e : ℕ) → addressOf e < x → tick (storeTo es x e) ≡ 0
+  unfolding storeTo
+  other-address x e h = rw (ne-eqb (addressOf e) x (λ p. omega arith)) (go (eqb (getD es e noEvent .kind) store))
+    where
+      go : (y : Bool) → tick (y && false) ≡ 0
+      go true = refl
+      go false = refl
+
+  its-address : (x e : ℕ) → storeTo es x e ≡ true → addressOf e ≡ x
+  unfolding storeTo
+  its-address x e p = eqb-true (addressOf e) x (and-r (eqb (getD es e noEvent .kind) store) (eqb (addressOf e) x) p)
+
+  ticks-past : (x i e : ℕ) → addressOf e < x → ticks x i e ≡ 0
+  ticks-past x zero e h = refl
+  ticks-past x (suc i) e h = omega (arith, other-address x e h, ticks-past (suc x) i e (omega arith))
+
+  ticks-one : (x i e : ℕ) → ticks x i e ≤ 1
+  ticks-one x zero e = omega arith
+  ticks-one x (suc i) e = go (storeTo es x e) refl (ticks-one (suc x) i e)
+    where
+      go : (y : Bool) → storeTo es x e ≡ y → ticks (suc x) i e ≤ 1 → tick y + ticks (suc x) i e ≤ 1
+      go false p ih = omega (arith, ih)
+      go true p ih = let here : addressOf e ≡ x = its-address x e p in omega (arith, ticks-past (suc x) i e (omega arith))
+
+  pub stores-most : (x i k : ℕ) → stores x i k ≤ k
+  stores-most x i zero = omega (arith, no-store x i)
+  stores-most x i (suc k) = omega (arith, one-store x i k, ticks-one x i k, stores-most x i k)
+
+  few-write : (k : ℕ) (mine : ℕ → Bool) (before w : List ℕ) → k ≤ mostEvents → WriteFits k mine before w → Few (each encode w) (length w * size (mostEvents - 1))
+  few-write k mine before w l h = few-each encode (size (mostEvents - 1)) w (go before w h) (length w) (le-refl (length w))
+    where
+      go : (before w : List ℕ) → WriteFits k mine before w → All (λ e. Few (encode e) (size (mostEvents - 1))) w
+      go before [] h = tt
+      go before (e ∷ w) h = (few-up-to e (mostEvents - 1) (omega (arith, h .0)), go (before ++ (e ∷ [])) w (h .2))
+
+  few-from : (k x : ℕ) (ws : List (List ℕ)) → k ≤ mostEvents → WritesFrom k (storeTo es) x ws
+      → Few (each (each encode) ws) (stores x (length ws) k * size (mostEvents - 1))
+  unfolding each
+  few-from k x [] l h = record { most = omega arith; bytes = tt }
+  few-from k x (w ∷ ws) l h =
+      let b : ℕ = size (mostEvents - 1) in
+      let this : Few (each encode w) (count k (storeTo es x) * b) = rw (h .0 .0) at (few-write k (storeTo es x) [] w l (h .0 .1)) in
+      let both : Few (each (each encode) (w ∷ ws)) (count k (storeTo es x) * b + stores (suc x) (length ws) k * b) = this then few-from k (suc x) ws l (h .1) in
+      record { most = rw add-mul (both .most); bytes = both .bytes }
+
+  few-writes : (k : ℕ) (ws : List (List ℕ)) → k ≤ mostEvents → WritesFit k (storeTo es) [] ws → Few (each (each encode) ws) (mostEvents * size (mostEvents - 1))
+  few-writes k ws l h =
+      let few : stores 0 (length ws) k ≤ mostEvents = omega (arith, stores-most 0 (length ws) k) in
+      let all : Few (each (each encode) ws) (stores 0 (length ws) k * size (mostEvents - 1)) = few-from k 0 ws l (writes-from k (storeTo es) [] ws h) in
+      record { most = le-trans (all .most) (mul-le-mul-right (size (mostEvents - 1)) few); bytes = all .bytes }
+
+-- ---- orders
+
+few-order : (k : ℕ) (rows : List ℕ) → k ≤ mostEvents → length rows ≡ k → Few (orderBytes k rows) mostOrderBytes
+unfolding orderBytes pairBytes mostOrderBytes
+few-order k rows h e =
+    let ps : List Pair = rowsPairs k 0 rows in
+    let up : Rising k 0 ps = rw zero-mul at (rising-rows k 0 rows (omega arith)) in
+    let square : k * k ≤ mostEvents * mostEvents = mul-le-mul h h in
+    let many : length ps ≤ mostEvents * mostEvents = omega (arith, few-pairs k 0 ps (omega arith) up) in
+    few-up-to (length ps) (mostEvents * mostEvents) many then few-each pairBytes _ ps (go 0 ps up) (mostEvents * mostEvents) many
+  where
+    go : (least : ℕ) (ps : List Pair) → Rising k least ps → All (λ p. Few (pairBytes p) (size (mostEvents - 1) + size (mostEvents - 1))) ps
+    go least [] r = tt
+    go least (p ∷ ps) r =
+        (few-up-to (p .a) (mostEvents - 1) (omega (arith, r .0)) then few-up-to (p .b) (mostEvents - 1) (omega (arith, r .1)), go _ ps (r .3))
+
+-- ---- the record
+
+module _ (c : Case) (F : Fits c) where
+  few : Few (recordOf c) mostBytes
+  unfolding recordOf mostBytes
+  few =
+      few-up-to (c .edition) mostEdition (F .edition-most)
+      then few-up-to (c .n) mostThreads (F .n-most)
+      then few-up-to (c .m) mostAddresses (F .m-most)
+      then few-each encode _ (c .initials) (all-map _ _ (λ v h. few-up-to v mostValue h) (c .initials) (F .initials)) mostAddresses (omega (arith, F .m, F .m-most))
+      then few-up-to (c .k) mostEvents (F .k-most)
+      then few-each eventBytes _ (c .events) (all-map _ _ (λ e h. few-event (c .n) (c .m) e (F .n-most) (F .m-most) h) (c .events) (F .events)) mostEvents (omega (arith, F .k, F .k-most))
+      then few-writes (c .events) (c .k) (c .writes) (F .k-most) (F .writes)
+      then few-each (orderBytes (c .k)) _ (c .orders) (all-map _ _ (λ rows h. few-order (c .k) rows (F .k-most) (h .0)) (c .orders) (F .orders)) mostThreads (omega (arith, F .n, F .n-most))
+      then few-up-to (length (c .name)) mostName (F .name)
+      then name-few
+    where
+      name-few : Few (c .name) mostName
+      name-few = record { most = F .name; bytes = F .name-bytes }
+
+  pub most-bytes : length (recordOf c) ≤ mostBytes
+  most-bytes = few .most
+
+  pub record-bytes : Bytes (recordOf c)
+  record-bytes = few .bytes
+
+-- ---- the most bytes as a numeral
+
+-- few groups want little fuel
+encode-by : (g v : ℕ) → v < 128 ^ suc g → encode v ≡ encodeBy g v
+unfolding encodeBy
+encode-by zero v h = encode-low v h
+encode-by (suc g) v h = go (ltb v 128) refl (encode-by g (v / 128))
+  where
+    go : (x : Bool) → ltb v 128 ≡ x → (v / 128 < 128 ^ suc g → encode (v / 128) ≡ encodeBy g (v / 128))
+        → encode v ≡ cond x (v ∷ []) ((128 + v % 128) ∷ encodeBy g (v / 128))
+    go true p ih = encode-low v (ltb-true v 128 p)
+    go false p ih =
+        encode-high v (ltb-false v 128 p)
+        ∙ ap (λ (l : List ℕ). (128 + v % 128) ∷ l) (ih (div-lt-iff-lt-mul (omega arith) .1 (rw pow-suc at h)))
+
+size-by : (v : ℕ) → v < 128 ^ groups → size v ≡ length (encodeBy (groups - 1) v)
+size-by v h = ap length (encode-by (groups - 1) v h)
+
+-- 01: "record bytes"
+pub most-is : mostBytes ≡ 4833
+unfolding mostBytes mostEventBytes mostOrderBytes encodeBy
+most-is =
+    simp (
+      size-by mostEdition (lit< tt),
+      size-by mostThreads (lit< tt),
+      size-by mostEvents (lit< tt),
+      size-by mostValue (lit< tt),
+      size-by mostKind (lit< tt),
+      size-by (mostThreads - 1) (lit< tt),
+      size-by (mostEvents * mostEvents) (lit< tt),
+      size-by (mostEvents - 1) (lit< tt),
+      size-by mostName (lit< tt),
+    )

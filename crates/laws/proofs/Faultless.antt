@@ -1,0 +1,218 @@
+-- Cases handed without bytes: those without fault are those that fit.
+-- Assumes nothing.
+use Prim.Native.Nat.{ℕ, zero, suc, _≤_, _<_, _^_}
+use native.Mathlib.Omega.{arith}
+use mathlib.Core.Path.{_≡_, refl, sym}
+use mathlib.Core.Bool.{Bool, true, false, not, _&&_, _||_, true≢false}
+use mathlib.Core.List.{List, [], _∷_, _++_}
+use lib.Dec.{leb, ltb}
+use lib.ListN.{length}
+use borrow.Author.Tests.{le-leb, leb-true, lt-ltb, ltb-true}
+use Rattle.finite.specs.Tests.{count}
+use Rattle.finite.proofs.Tests.{and-l, and-r, and-i}
+use Rattle.number.specs.Reader.{next}
+use Rattle.model.specs.Limits.{leastEdition, mostEdition, mostThreads, mostAddresses, mostEvents, mostValue, mostName}
+use Rattle.model.specs.Case.{Case, Event, mostKind, bare}
+use Rattle.model.specs.Rules.{orElse}
+use Rattle.model.specs.Record.{member, storeTo, read}
+use Rattle.model.specs.Written.{recordOf}
+use Rattle.model.specs.Fault.{every, between, eventGood, firstFault, writeFault, writesFault, fault}
+use Rattle.model.specs.Answers.{handed}
+use Rattle.laws.proofs.Fits.{All, Bytes, EventFits, WriteFits, Fits}
+use Rattle.laws.proofs.AllFrom.{AllFrom, from-map, WritesFrom, writes-from, from-writes}
+use Rattle.laws.proofs.ReadBack.{all-map, read-back}
+
+-- ---- what no fault tells
+
+-- the lists are as long as the counts say, what stands for nothing is 0, rows hold no event past the last, a name is bytes
+pub record Shaped (c : Case) : Type 0 where
+  pub m : c .m ≡ length (c .initials)
+  pub k : c .k ≡ length (c .events)
+  pub no-address : All (λ e. bare (e .kind) ≡ true → e .address ≡ 0) (c .events)
+  pub no-value : All (λ e. bare (e .kind) ≡ true → e .value ≡ 0) (c .events)
+  pub m′ : c .m ≡ length (c .writes)
+  pub writes : AllFrom (λ x w. length w ≡ count (c .k) (storeTo (c .events) x)) 0 (c .writes)
+  pub n : c .n ≡ length (c .orders)
+  pub orders : All (λ rows. (length rows ≡ c .k) × All (λ r. r < 2 ^ (c .k)) rows) (c .orders)
+  pub name-bytes : Bytes (c .name)
+
+-- ---- tests and faults
+
+pub every-make : {A : Type 0} (P : A → Type 0) (f : A → Bool) → ((a : A) → P a → f a ≡ true) → (l : List A) → All P l → every f l ≡ true
+unfolding every
+every-make P f h [] p = refl
+every-make P f h (a ∷ l) p = and-i (f a) (every f l) (h a (p .0)) (every-make P f h l (p .1))
+
+pub every-get : {A : Type 0} (f : A → Bool) (l : List A) → every f l ≡ true → All (λ a. f a ≡ true) l
+unfolding every
+every-get f [] e = tt
+every-get f (a ∷ l) e = (and-l (f a) (every f l) e, every-get f l (and-r (f a) (every f l) e))
+
+-- what holds where three others do
+all-three : {A : Type 0} (P Q R S : A → Type 0) → ((a : A) → P a → Q a → R a → S a) → (l : List A) → All P l → All Q l → All R l → All S l
+all-three P Q R S f [] p q r = tt
+all-three P Q R S f (a ∷ l) p q r = (f a (p .0) (q .0) (r .0), all-three P Q R S f l (p .1) (q .1) (r .1))
+
+-- a test that is passed
+record Passed (t : Bool) (rest : ℕ) : Type 0 where
+  here : t ≡ true
+  there : rest ≡ 0
+
+passed : (t : Bool) (x rest : ℕ) → orElse t (suc x) rest ≡ 0 → Passed t rest
+passed true x rest e = record { here = refl; there = e }
+passed false x rest e = absurd (omega arith)
+
+pass : (t : Bool) (x rest : ℕ) → t ≡ true → rest ≡ 0 → orElse t x rest ≡ 0
+pass true x rest e h = h
+pass false x rest e h = absurd (true≢false (sym e))
+
+record Neither (x y : ℕ) : Type 0 where
+  here : x ≡ 0
+  there : y ≡ 0
+
+neither : (x y : ℕ) → firstFault x y ≡ 0 → Neither x y
+neither zero y e = record { here = refl; there = e }
+neither (suc x) y e = absurd (omega arith)
+
+none : (x y : ℕ) → x ≡ 0 → y ≡ 0 → firstFault x y ≡ 0
+none zero y e h = h
+none (suc x) y e h = absurd (omega arith)
+
+module _ (lo hi v : ℕ) where
+  between-make : lo ≤ v → v ≤ hi → between lo hi v ≡ true
+  between-make l h = and-i (leb lo v) (leb v hi) (le-leb lo v l) (le-leb v hi h)
+
+  between-least : between lo hi v ≡ true → lo ≤ v
+  between-least e = leb-true lo v (and-l (leb lo v) (leb v hi) e)
+
+  between-most : between lo hi v ≡ true → v ≤ hi
+  between-most e = leb-true v hi (and-r (leb lo v) (leb v hi) e)
+
+-- ---- an event
+
+module _ (n m : ℕ) (e : Event) where
+  event-good : EventFits n m e → eventGood n m e ≡ true
+  unfolding eventGood
+  event-good f =
+      and-i (leb (e .kind) mostKind && ltb (e .thread) n) _
+      (and-i (leb (e .kind) mostKind) (ltb (e .thread) n) (le-leb _ _ (f .kind)) (lt-ltb _ _ (f .thread))) (go (bare (e .kind)) refl)
+    where
+      go : (x : Bool) → bare (e .kind) ≡ x → (x || (ltb (e .address) m && leb (e .value) mostValue)) ≡ true
+      go true p = refl
+      go false p = and-i (ltb (e .address) m) _ (lt-ltb _ _ (f .address p)) (le-leb _ _ (f .value p))
+
+  event-fits : (bare (e .kind) ≡ true → e .address ≡ 0) → (bare (e .kind) ≡ true → e .value ≡ 0) → eventGood n m e ≡ true → EventFits n m e
+  unfolding eventGood
+  event-fits a v t =
+      let front = and-l (leb (e .kind) mostKind && ltb (e .thread) n) (bare (e .kind) || (ltb (e .address) m && leb (e .value) mostValue)) t in
+      let back = and-r (leb (e .kind) mostKind && ltb (e .thread) n) (bare (e .kind) || (ltb (e .address) m && leb (e .value) mostValue)) t in
+      record {
+        kind = leb-true _ _ (and-l (leb (e .kind) mostKind) (ltb (e .thread) n) front);
+        thread = ltb-true _ _ (and-r (leb (e .kind) mostKind) (ltb (e .thread) n) front);
+        address = λ p. ltb-true _ _ (and-l (ltb (e .address) m) (leb (e .value) mostValue) (full p back));
+        value = λ p. leb-true _ _ (and-r (ltb (e .address) m) (leb (e .value) mostValue) (full p back));
+        no-address = a;
+        no-value = v;
+      }
+    where
+      full : {x y : Bool} → x ≡ false → (x || y) ≡ true → y ≡ true
+      full {x = false} p q = q
+      full {x = true} p q = absurd (true≢false p)
+
+-- ---- write orders
+
+module _ (k : ℕ) (mine : ℕ → Bool) where
+  write-faultless : (before w : List ℕ) → WriteFits k mine before w → writeFault k mine before w ≡ 0
+  unfolding writeFault
+  write-faultless before [] h = refl
+  write-faultless before (e ∷ w) h = pass _ 3 _ (lt-ltb e k (h .0)) (pass _ 4 _ (h .1) (write-faultless (before ++ (e ∷ [])) w (h .2)))
+
+  write-fits : (before w : List ℕ) → writeFault k mine before w ≡ 0 → WriteFits k mine before w
+  unfolding writeFault
+  write-fits before [] h = tt
+  write-fits before (e ∷ w) h =
+      let a = passed (ltb e k) 2 _ h in
+      let b = passed (mine e && not (member e before)) 3 _ (a .there) in
+      (ltb-true e k (a .here), b .here, write-fits (before ++ (e ∷ [])) w (b .there))
+
+module _ (k : ℕ) (mine : ℕ → ℕ → Bool) where
+  writes-faultless : (x : ℕ) (ws : List (List ℕ)) → WritesFrom k mine x ws → writesFault k mine x ws ≡ 0
+  unfolding writesFault
+  writes-faultless x [] h = refl
+  writes-faultless x (w ∷ ws) h = none _ _ (write-faultless k (mine x) [] w (h .0 .1)) (writes-faultless (suc x) ws (h .1))
+
+  writes-fit : (x : ℕ) (ws : List (List ℕ)) → AllFrom (λ x w. length w ≡ count k (mine x)) x ws
+      → writesFault k mine x ws ≡ 0 → WritesFrom k mine x ws
+  unfolding writesFault
+  writes-fit x [] l h = tt
+  writes-fit x (w ∷ ws) l h =
+      let a = neither (writeFault k (mine x) [] w) _ h in
+      ((l .0, write-fits k (mine x) [] w (a .here)), writes-fit (suc x) ws (l .1) (a .there))
+
+-- ---- cases
+
+pub faultless : (c : Case) → Fits c → fault c ≡ 0
+unfolding fault
+faultless c F =
+    pass _ 3 _ (between-make leastEdition mostEdition (c .edition) (F .edition-least) (F .edition-most))
+    (pass _ 3 _ (between-make 1 mostThreads (c .n) (F .n-least) (F .n-most))
+    (pass _ 3 _ (between-make 1 mostAddresses (c .m) (F .m-least) (F .m-most))
+    (pass _ 3 _ (every-make _ _ (λ v h. le-leb v mostValue h) (c .initials) (F .initials))
+    (pass _ 3 _ (le-leb (c .k) mostEvents (F .k-most))
+    (pass _ 3 _ (every-make _ _ (event-good (c .n) (c .m)) (c .events) (F .events))
+    (none _ _ (writes-faultless (c .k) (storeTo (c .events)) 0 (c .writes) (writes-from (c .k) (storeTo (c .events)) [] (c .writes) (F .writes)))
+    (pass _ 3 0 (le-leb (length (c .name)) mostName (F .name)) refl)))))))
+
+pub fits-of : (c : Case) → Shaped c → fault c ≡ 0 → Fits c
+unfolding fault
+fits-of c S e =
+    let edition = passed (between leastEdition mostEdition (c .edition)) 2 _ e in
+    let threads = passed (between 1 mostThreads (c .n)) 2 _ (edition .there) in
+    let addresses = passed (between 1 mostAddresses (c .m)) 2 _ (threads .there) in
+    let initials = passed (every (λ v. leb v mostValue) (c .initials)) 2 _ (addresses .there) in
+    let events = passed (leb (c .k) mostEvents) 2 _ (initials .there) in
+    let listed = passed (every (eventGood (c .n) (c .m)) (c .events)) 2 _ (events .there) in
+    let writes = neither (writesFault (c .k) (storeTo (c .events)) 0 (c .writes)) _ (listed .there) in
+    let name = passed (leb (length (c .name)) mostName) 2 0 (writes .there) in
+    record {
+      edition-least = between-least leastEdition mostEdition (c .edition) (edition .here);
+      edition-most = between-most leastEdition mostEdition (c .edition) (edition .here);
+      n-least = between-least 1 mostThreads (c .n) (threads .here);
+      n-most = between-most 1 mostThreads (c .n) (threads .here);
+      m-least = between-least 1 mostAddresses (c .m) (addresses .here);
+      m-most = between-most 1 mostAddresses (c .m) (addresses .here);
+      k-most = leb-true (c .k) mostEvents (events .here);
+      m = S .m;
+      initials = all-map _ _ (λ v h. leb-true v mostValue h) (c .initials) (every-get (λ v. leb v mostValue) (c .initials) (initials .here));
+      k = S .k;
+      events = all-three _ _ _ _ (event-fits (c .n) (c .m)) (c .events) (S .no-address) (S .no-value) (every-get (eventGood (c .n) (c .m)) (c .events) (listed .here));
+      m′ = S .m′;
+      writes = from-writes (c .k) (storeTo (c .events)) [] (c .writes) (writes-fit (c .k) (storeTo (c .events)) 0 (c .writes) (S .writes) (writes .here));
+      n = S .n;
+      orders = S .orders;
+      name = leb-true (length (c .name)) mostName (name .here);
+      name-bytes = S .name-bytes;
+    }
+
+-- a case that fits has the shape, so that the shape asks no more than fitting does
+pub shaped : (c : Case) → Fits c → Shaped c
+shaped c F = record {
+  m = F .m;
+  k = F .k;
+  no-address = all-map _ _ (λ e h. h .no-address) (c .events) (F .events);
+  no-value = all-map _ _ (λ e h. h .no-value) (c .events) (F .events);
+  m′ = F .m′;
+  writes = from-map _ _ (λ x w h. h .0) 0 (c .writes) (writes-from (c .k) (storeTo (c .events)) [] (c .writes) (F .writes));
+  n = F .n;
+  orders = F .orders;
+  name-bytes = F .name-bytes;
+}
+
+-- such a case is handed on as it is, with its record's length
+pub handed-on : (c : Case) → Fits c → handed c ≡ next c (length (recordOf c))
+unfolding handed
+handed-on c F = rw (faultless c F)
+
+-- what a writer makes of a case without fault is read back as the case
+pub round-trip : (c : Case) → Shaped c → fault c ≡ 0 → (t : List ℕ) → read (recordOf c ++ t) ≡ next c (length (recordOf c))
+round-trip c S e t = read-back c (fits-of c S e) t

@@ -1,0 +1,214 @@
+-- A case that keeps the limits keeps them with other labels, and its record keeps its length.
+-- Assumes nothing.
+use Prim.Native.Nat.{ℕ, zero, suc, _+_, _≤_, _<_}
+use native.Mathlib.Nat.{add-zero, zero-add, add-suc, suc-add, not-suc-le-zero, le-of-suc-le-suc}
+use native.Mathlib.Omega.{arith}
+use mathlib.Core.Path.{_≡_, refl, sym, ap, ap₂, _∙_, subst, fun-ext}
+use mathlib.Core.Bool.{Bool, true, false, cond, _&&_}
+use mathlib.Core.List.{List, [], _∷_, _++_, map}
+use lib.Dec.{T, eqb}
+use lib.ListN.{length, getD, length-append, length-map}
+use borrow.Author.Tests.{eqb-true}
+use Rattle.finite.specs.Tests.{count}
+use Rattle.finite.specs.Lists.{table, each}
+use Rattle.finite.proofs.Lists.{table-length, as-table}
+use Rattle.number.specs.Number.{encode}
+use Rattle.number.proofs.Encoding.{encode-low}
+use Rattle.permutation.specs.Permutation.{labels, image, inverse, fits}
+use Rattle.permutation.proofs.Laws.{image-inverse, image-eqb, fits-below, fits-image, fits-inverse}
+use Rattle.permutation.proofs.Sums.{total, total-image}
+use Rattle.model.specs.Case.{Case, Event, noEvent, store, bare}
+use Rattle.model.specs.Record.{storeTo}
+use Rattle.model.specs.Written.{eventBytes, orderBytes, recordOf}
+use Rattle.model.specs.Renumber.{moved, relabel, renumber}
+use Rattle.laws.proofs.Fits.{All, EventFits, WriteFits, WritesFit, Fits}
+use Rattle.laws.proofs.AllFrom.{AllFrom, writes-from, from-writes}
+use Rattle.laws.proofs.Renumbered.{event-at}
+
+module _ {A : Type 0} (P : A → Type 0) where
+  all-at : (l : List A) → All P l → (i : ℕ) (d : A) → i < length l → P (getD l i d)
+  all-at [] h i d l = absurd (not-suc-le-zero l)
+  all-at (a ∷ as′) h zero d l = h .0
+  all-at (a ∷ as′) h (suc i) d l = all-at as′ (h .1) i d (le-of-suc-le-suc l)
+
+  all-table : (i j : ℕ) (f : ℕ → A) → ((y : ℕ) → y < i + j → P (f y)) → All P (table i j f)
+  unfolding table
+  all-table i zero f h = tt
+  all-table i (suc j) f h = (h i (omega arith), all-table (suc i) j f (λ y l. h y (omega arith)))
+
+  all-moved : (q j : ℕ) → T (fits q j) → (d : A) (l : List A) → j ≡ length l → All P l → All P (moved q j d l)
+  unfolding moved
+  all-moved q j f d l e h =
+      all-table 0 j _
+      (λ y m. all-at l h (image (inverse q) y) d (subst (λ (i : ℕ). image (inverse q) y < i) e (fits-image (inverse q) j (fits-inverse q j f) y (rw zero-add at m))))
+
+moved-length : {A : Type 0} (q j : ℕ) (d : A) (l : List A) → j ≡ length (moved q j d l)
+unfolding moved
+moved-length q j d l = sym (table-length 0 j _)
+
+all-mapped : {A B : Type 0} (P : A → Type 0) (Q : B → Type 0) (f : A → B) → ((a : A) → P a → Q (f a)) → (l : List A) → All P l → All Q (map f l)
+all-mapped P Q f g [] h = tt
+all-mapped P Q f g (a ∷ l) h = (g a (h .0), all-mapped P Q f g l (h .1))
+
+-- the element at a place, and a table, by their numbers
+module _ {A : Type 0} (P : ℕ → A → Type 0) where
+  from-at : (x : ℕ) (l : List A) → AllFrom P x l → (i : ℕ) (d : A) → i < length l → P (x + i) (getD l i d)
+  from-at x [] h i d l = absurd (not-suc-le-zero l)
+  from-at x (a ∷ as′) h zero d l = rw add-zero (h .0)
+  from-at x (a ∷ as′) h (suc i) d l =
+      subst (λ (y : ℕ). P y (getD as′ i d)) (omega arith) (from-at (suc x) as′ (h .1) i d (le-of-suc-le-suc l))
+
+  from-table : (x j : ℕ) (f : ℕ → A) → ((y : ℕ) → y < x + j → P y (f y)) → AllFrom P x (table x j f)
+  unfolding table
+  from-table x zero f h = tt
+  from-table x (suc j) f h = (h x (omega arith), from-table (suc x) j f (λ y l. h y (omega arith)))
+
+-- as many bytes
+record AsLong (a b : List ℕ) : Type 0 where
+  long : length a ≡ length b
+
+still : (a : List ℕ) → AsLong a a
+still a = record { long = refl }
+
+infixr 20 _then_
+_then_ : {a a′ b b′ : List ℕ} → AsLong a a′ → AsLong b b′ → AsLong (a ++ b) (a′ ++ b′)
+_then_ {a} {a′} {b} {b′} p q = record { long = length-append a b ∙ ap₂ _+_ (p .long) (q .long) ∙ sym (length-append a′ b′) }
+
+total-front : (j : ℕ) (g : ℕ → ℕ) → total (suc j) g ≡ g 0 + total j (λ y. g (suc y))
+total-front zero g = refl
+total-front (suc j) g = let e = total-front j g in omega arith
+
+each-table : {A : Type 0} (enc : A → List ℕ) (i j : ℕ) (f : ℕ → A) → length (each enc (table i j f)) ≡ total j (λ y. length (enc (f (i + y))))
+unfolding table each
+each-table enc i zero f = refl
+each-table enc i (suc j) f =
+    length-append (enc (f i)) (each enc (table (suc i) j f)) ∙ ap (λ (z : ℕ). length (enc (f i)) + z) (each-table enc (suc i) j f)
+    ∙ sym (total-front j (λ y. length (enc (f (i + y)))) ∙ simp (add-zero, add-suc, suc-add))
+
+table-long : {A : Type 0} (enc : A → List ℕ) (j : ℕ) (f : ℕ → A) → length (each enc (table 0 j f)) ≡ total j (λ y. length (enc (f y)))
+table-long enc j f = each-table enc 0 j f ∙ simp zero-add
+
+-- what is written of a list takes as many bytes as what is written of it moved
+moved-long :
+    {A : Type 0} (enc : A → List ℕ) (q j : ℕ) → T (fits q j) → (d : A) (l : List A) → j ≡ length l → AsLong (each enc (moved q j d l)) (each enc l)
+unfolding moved
+moved-long {A} enc q j f d l e = record {
+  long =
+      table-long enc j (λ y. getD l (image (inverse q) y) d)
+      ∙ total-image (inverse q) j (fits-inverse q j f) (λ y. length (enc (getD l y d)))
+      ∙ sym (ap (λ (l : List A). length (each enc l)) (as-table l d j (sym e)) ∙ table-long enc j (λ y. getD l y d));
+}
+
+-- labels take one byte each
+label-long : (v w : ℕ) → v < labels → w < labels → AsLong (encode v) (encode w)
+label-long v w h l = record { long = rw (encode-low v (omega arith), encode-low w (omega arith)) }
+
+module _ (q r n m : ℕ) (fq : T (fits q n)) (fr : T (fits r m)) where
+  event-fits : (e : Event) → EventFits n m e → EventFits n m (relabel q r e)
+  unfolding relabel
+  event-fits e f = record {
+    kind = f .kind;
+    thread = fits-image q n fq (e .thread) (f .thread);
+    address = λ h. rw h (fits-image r m fr (e .address) (f .address h));
+    value = f .value;
+    no-address = λ h. rw h (f .no-address h);
+    no-value = f .no-value;
+  }
+
+  -- a store to the address to which y moves back
+  store-moved : (y : ℕ) (e : Event) → (eqb (e .kind) store && eqb (relabel q r e .address) y) ≡ (eqb (e .kind) store && eqb (e .address) (image (inverse r) y))
+  unfolding relabel
+  store-moved y e = go (eqb (e .kind) store) refl
+    where
+      go :
+          (b : Bool) → eqb (e .kind) store ≡ b
+          → (b && eqb (cond (bare (e .kind)) (e .address) (image r (e .address))) y) ≡ (b && eqb (e .address) (image (inverse r) y))
+      go false p = refl
+      go true p =
+          let is-store : bare (e .kind) ≡ false = ap bare (eqb-true (e .kind) store p) in
+          rw is-store
+          (ap (eqb (image r (e .address))) (sym (image-inverse r (fits-below r m fr) y))
+          ∙ image-eqb r (fits-below r m fr) (e .address) (image (inverse r) y))
+
+  stores-moved : (es : List Event) (y : ℕ) → storeTo (map (relabel q r) es) y ≡ storeTo es (image (inverse r) y)
+  unfolding storeTo
+  stores-moved es y = fun-ext (λ e. rw (event-at q r es e) (unfold relabel in store-moved y (getD es e noEvent)))
+
+  module _ (hn : n ≤ labels) (hm : m ≤ labels) where
+    -- an event takes as many bytes as before
+    event-long : (e : Event) → EventFits n m e → AsLong (eventBytes (relabel q r e)) (eventBytes e)
+    unfolding eventBytes relabel
+    event-long e f =
+        still (encode (e .kind))
+        then label-long (image q (e .thread)) (e .thread) (omega (arith, fits-image q n fq (e .thread) (f .thread))) (omega (arith, f .thread))
+        then go (bare (e .kind)) refl
+      where
+        go :
+            (b : Bool) → bare (e .kind) ≡ b
+            → AsLong (cond b [] (encode (cond b (e .address) (image r (e .address))) ++ encode (e .value))) (cond b [] (encode (e .address) ++ encode (e .value)))
+        go true p = still []
+        go false p =
+            label-long (image r (e .address)) (e .address) (omega (arith, fits-image r m fr (e .address) (f .address p))) (omega (arith, f .address p))
+            then still (encode (e .value))
+
+    events-long : (es : List Event) → All (EventFits n m) es → AsLong (each eventBytes (map (relabel q r) es)) (each eventBytes es)
+    unfolding each
+    events-long [] h = still []
+    events-long (e ∷ es) h = event-long e (h .0) then events-long es (h .1)
+
+module _ (q r : ℕ) (c : Case) (F : Fits c) (fq : T (fits q (c .n))) (fr : T (fits r (c .m))) where
+  -- a write order that lists the stores mine
+  abbrev Whole : (ℕ → Bool) → List ℕ → Type 0
+  Whole mine w = (length w ≡ count (c .k) mine) × WriteFits (c .k) mine [] w
+
+  writes-fit : WritesFit (c .k) (storeTo (map (relabel q r) (c .events))) [] (moved r (c .m) [] (c .writes))
+  unfolding moved
+  writes-fit =
+      let now : ℕ → ℕ → Bool = storeTo (map (relabel q r) (c .events)) in
+      let placed : ℕ → List ℕ = λ y. getD (c .writes) (image (inverse r) y) [] in
+      from-writes (c .k) now [] (table 0 (c .m) placed)
+      (from-table (λ y w. Whole (now y) w) 0 (c .m) placed
+      (λ y l.
+      let x : ℕ = image (inverse r) y in
+      let h : x < c .m = fits-image (inverse r) (c .m) (fits-inverse r (c .m) fr) y (rw zero-add at l) in
+      let old =
+      from-at (λ x w. Whole (storeTo (c .events) x) w) 0 (c .writes) (writes-from (c .k) (storeTo (c .events)) [] (c .writes) (F .writes)) x []
+      (subst (λ (i : ℕ). x < i) (F .m′) h) in
+      let same : Whole (storeTo (c .events) x) (getD (c .writes) x []) = rw zero-add at old in
+      subst (λ (mine : ℕ → Bool). Whole mine (getD (c .writes) x [])) (sym (stores-moved q r (c .n) (c .m) fq fr (c .events) y)) same))
+
+  pub refits : Fits (renumber q r c)
+  unfolding renumber
+  refits = record {
+    edition-least = F .edition-least;
+    edition-most = F .edition-most;
+    n-least = F .n-least;
+    n-most = F .n-most;
+    m-least = F .m-least;
+    m-most = F .m-most;
+    k-most = F .k-most;
+    m = moved-length r (c .m) 0 (c .initials);
+    initials = all-moved _ r (c .m) fr 0 (c .initials) (F .m) (F .initials);
+    k = F .k ∙ sym (length-map (c .events) _);
+    events = all-mapped _ _ _ (event-fits q r (c .n) (c .m) fq fr) (c .events) (F .events);
+    m′ = moved-length r (c .m) [] (c .writes);
+    writes = writes-fit;
+    n = moved-length q (c .n) [] (c .orders);
+    orders = all-moved _ q (c .n) fq [] (c .orders) (F .n) (F .orders);
+    name = F .name;
+    name-bytes = F .name-bytes;
+  }
+
+  as-long : AsLong (recordOf (renumber q r c)) (recordOf c)
+  unfolding recordOf renumber
+  as-long =
+      still (encode (c .edition)) then still (encode (c .n)) then still (encode (c .m))
+      then moved-long encode r (c .m) fr 0 (c .initials) (F .m)
+      then still (encode (c .k))
+      then events-long q r (c .n) (c .m) fq fr (F .n-most) (F .m-most) (c .events) (F .events)
+      then moved-long (each encode) r (c .m) fr [] (c .writes) (F .m′)
+      then moved-long (orderBytes (c .k)) q (c .n) fq [] (c .orders) (F .n)
+      then still (encode (length (c .name)) ++ c .name)
+
+  pub same-length : length (recordOf (renumber q r c)) ≡ length (recordOf c)
+  same-length = as-long .long

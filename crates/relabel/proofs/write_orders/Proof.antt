@@ -1,0 +1,46 @@
+use borrow.Author.Needs.{needs}
+use Prim.Native.Nat.{_-_}
+use native.Mathlib.Omega.{arith}
+use Rattle.model.specs.Limits.{mostAddresses}
+use Rattle.permutation.specs.Permutation.{image, inverse}
+use Rattle.relabel.specs.Orders.{writeOrder}
+use Rattle.relabel.proofs.Steps.{pulled-below}
+use Rattle.relabel.proofs.Rows.{Tabling, table-begun, table-all, part-room, step-size}
+use Rattle.relabel.proofs.Parts.{count-small, write-small, write-next}
+use Rattle.relabel.proofs.write_orders.Statement.{statement}
+use Rattle.relabel.proofs.write_orders.Tie as tie
+
+abbrev Inv-loop : tie.InvT-loop
+Inv-loop r m k kinds xs writes back out₀ y₀ out y = Tabling (λ x. writeOrder k kinds xs writes (image (inverse r) x)) m mostAddresses out y
+
+abbrev μ-loop : tie.MeasureT-loop
+μ-loop r m k kinds xs writes back out₀ y₀ out y = m - y
+
+pub write-orders-spec : {M : Type 1} → statement M
+write-orders-spec =
+    tie.close
+    (tie.spec
+    Inv-loop
+    μ-loop
+    (λ c κs. search needs)
+    (λ c. let a = c .before .before .before .before .args in
+    table-begun _ _ _ (omega arith) (write-small (a .r) (a .m) (a .k) (a .kinds .now) (a .xs .now) (a .writes .now) (omega arith)))
+    (λ c κs. search needs)
+    (λ c κs. search needs)
+    (λ c. search needs)
+    (λ c. search needs)
+    (λ c. omega (arith, pulled-below _ _ _ (c .before .image .ensures) (omega arith)))
+    (λ c. search needs)
+    (λ c. search needs)
+    (λ c. search needs)
+    (λ c κs. (
+      omega (arith, pulled-below _ _ _ (c .before .before .image .ensures) (omega arith), count-small _ _ _ (c .before .stores .ensures) (omega arith)),
+      search (part-room, step-size, count-small),
+    ))
+    (λ c. search needs)
+    (λ c. search needs)
+    (λ c. let a = c .before .before .before .before .before .before .before .before .before .before .before .args in
+    let l = c .before .before .before .before .before .before .loop in
+    write-next (a .r) (a .m) (a .k) (a .kinds .now) (a .xs .now) (a .writes .now) _ _ (l .y) _ _ (l .out) _ (l .inv) (omega arith) (step-size (l .y))
+    (c .before .before .before .before .image .ensures) (c .before .before .before .before .before .before .before .inverse .ensures) (c .before .before .before .stores .ensures) (c .before .copy .ensures))
+    (λ c. search table-all))
