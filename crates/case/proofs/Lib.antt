@@ -4,3 +4,4 @@ pub mod Tested
 pub mod WriteOrders
 pub mod Sizes
 pub mod Means
+pub mod HeldBack

@@ -1,11 +1,13 @@
 -- Facts of each element of a list and its number.
 -- Assumes nothing.
-use Prim.Native.Nat.{ℕ, zero, suc}
+use Prim.Native.Nat.{ℕ, zero, suc, _+_, _<_}
+use native.Mathlib.Nat.{add-zero, not-suc-le-zero, le-of-suc-le-suc}
+use native.Mathlib.Omega.{arith}
 use native.Mathlib.Numerals.{add-one}
-use mathlib.Core.Path.{_≡_, _∙_}
+use mathlib.Core.Path.{_≡_, _∙_, subst}
 use mathlib.Core.Bool.{Bool}
 use mathlib.Core.List.{List, [], _∷_, _++_}
-use lib.ListN.{length, length-append}
+use lib.ListN.{length, getD, length-append}
 use Rattle.finite.specs.Tests.{count}
 use Rattle.finite.specs.Lists.{table}
 use Rattle.laws.proofs.Fits.{All, WriteFits, WritesFit}
@@ -19,16 +21,30 @@ pub from-map : {A : Type 0} (P Q : ℕ → A → Type 0) → ((i : ℕ) (a : A) 
 from-map P Q f i [] h = tt
 from-map P Q f i (a ∷ l) h = (f i a (h .0), from-map P Q f (suc i) l (h .1))
 
--- of a table
-pub all-table : {A : Type 0} (P : A → Type 0) (i j : ℕ) (f : ℕ → A) → ((x : ℕ) → P (f x)) → All P (table i j f)
-unfolding table
-all-table P i zero f h = tt
-all-table P i (suc j) f h = (h i, all-table P (suc i) j f h)
+-- the element at a place, and a table
+module _ {A : Type 0} (P : A → Type 0) where
+  pub all-at : (l : List A) → All P l → (i : ℕ) (d : A) → i < length l → P (getD l i d)
+  all-at [] h i d l = absurd (not-suc-le-zero l)
+  all-at (a ∷ as′) h zero d l = h .0
+  all-at (a ∷ as′) h (suc i) d l = all-at as′ (h .1) i d (le-of-suc-le-suc l)
 
-pub all-from-table : {A : Type 0} (P : ℕ → A → Type 0) (i j : ℕ) (f : ℕ → A) → ((x : ℕ) → P x (f x)) → AllFrom P i (table i j f)
-unfolding table
-all-from-table P i zero f h = tt
-all-from-table P i (suc j) f h = (h i, all-from-table P (suc i) j f h)
+  pub all-table : (i j : ℕ) (f : ℕ → A) → ((y : ℕ) → y < i + j → P (f y)) → All P (table i j f)
+  unfolding table
+  all-table i zero f h = tt
+  all-table i (suc j) f h = (h i (omega arith), all-table (suc i) j f (λ y l. h y (omega arith)))
+
+-- the same by their numbers
+module _ {A : Type 0} (P : ℕ → A → Type 0) where
+  pub from-at : (x : ℕ) (l : List A) → AllFrom P x l → (i : ℕ) (d : A) → i < length l → P (x + i) (getD l i d)
+  from-at x [] h i d l = absurd (not-suc-le-zero l)
+  from-at x (a ∷ as′) h zero d l = rw add-zero (h .0)
+  from-at x (a ∷ as′) h (suc i) d l =
+      subst (λ (y : ℕ). P y (getD as′ i d)) (omega arith) (from-at (suc x) as′ (h .1) i d (le-of-suc-le-suc l))
+
+  pub from-table : (x j : ℕ) (f : ℕ → A) → ((y : ℕ) → y < x + j → P y (f y)) → AllFrom P x (table x j f)
+  unfolding table
+  from-table x zero f h = tt
+  from-table x (suc j) f h = (h x (omega arith), from-table (suc x) j f (λ y l. h y (omega arith)))
 
 one-longer : {A : Type 0} (l : List A) (a : A) → length (l ++ (a ∷ [])) ≡ suc (length l)
 one-longer l a = length-append l (a ∷ []) ∙ add-one (length l)

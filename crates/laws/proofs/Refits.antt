@@ -22,25 +22,15 @@ use Rattle.model.specs.Record.{storeTo}
 use Rattle.model.specs.Written.{eventBytes, orderBytes, recordOf}
 use Rattle.model.specs.Renumber.{moved, relabel, renumber}
 use Rattle.laws.proofs.Fits.{All, EventFits, WriteFits, WritesFit, Fits}
-use Rattle.laws.proofs.AllFrom.{AllFrom, writes-from, from-writes}
+use Rattle.laws.proofs.AllFrom.{AllFrom, all-at, all-table, from-at, from-table, writes-from, from-writes}
 use Rattle.laws.proofs.Renumbered.{event-at}
 
 module _ {A : Type 0} (P : A → Type 0) where
-  all-at : (l : List A) → All P l → (i : ℕ) (d : A) → i < length l → P (getD l i d)
-  all-at [] h i d l = absurd (not-suc-le-zero l)
-  all-at (a ∷ as′) h zero d l = h .0
-  all-at (a ∷ as′) h (suc i) d l = all-at as′ (h .1) i d (le-of-suc-le-suc l)
-
-  all-table : (i j : ℕ) (f : ℕ → A) → ((y : ℕ) → y < i + j → P (f y)) → All P (table i j f)
-  unfolding table
-  all-table i zero f h = tt
-  all-table i (suc j) f h = (h i (omega arith), all-table (suc i) j f (λ y l. h y (omega arith)))
-
   all-moved : (q j : ℕ) → T (fits q j) → (d : A) (l : List A) → j ≡ length l → All P l → All P (moved q j d l)
   unfolding moved
   all-moved q j f d l e h =
-      all-table 0 j _
-      (λ y m. all-at l h (image (inverse q) y) d (subst (λ (i : ℕ). image (inverse q) y < i) e (fits-image (inverse q) j (fits-inverse q j f) y (rw zero-add at m))))
+      all-table P 0 j _
+      (λ y m. all-at P l h (image (inverse q) y) d (subst (λ (i : ℕ). image (inverse q) y < i) e (fits-image (inverse q) j (fits-inverse q j f) y (rw zero-add at m))))
 
 moved-length : {A : Type 0} (q j : ℕ) (d : A) (l : List A) → j ≡ length (moved q j d l)
 unfolding moved
@@ -49,19 +39,6 @@ moved-length q j d l = sym (table-length 0 j _)
 all-mapped : {A B : Type 0} (P : A → Type 0) (Q : B → Type 0) (f : A → B) → ((a : A) → P a → Q (f a)) → (l : List A) → All P l → All Q (map f l)
 all-mapped P Q f g [] h = tt
 all-mapped P Q f g (a ∷ l) h = (g a (h .0), all-mapped P Q f g l (h .1))
-
--- the element at a place, and a table, by their numbers
-module _ {A : Type 0} (P : ℕ → A → Type 0) where
-  from-at : (x : ℕ) (l : List A) → AllFrom P x l → (i : ℕ) (d : A) → i < length l → P (x + i) (getD l i d)
-  from-at x [] h i d l = absurd (not-suc-le-zero l)
-  from-at x (a ∷ as′) h zero d l = rw add-zero (h .0)
-  from-at x (a ∷ as′) h (suc i) d l =
-      subst (λ (y : ℕ). P y (getD as′ i d)) (omega arith) (from-at (suc x) as′ (h .1) i d (le-of-suc-le-suc l))
-
-  from-table : (x j : ℕ) (f : ℕ → A) → ((y : ℕ) → y < x + j → P y (f y)) → AllFrom P x (table x j f)
-  unfolding table
-  from-table x zero f h = tt
-  from-table x (suc j) f h = (h x (omega arith), from-table (suc x) j f (λ y l. h y (omega arith)))
 
 -- as many bytes
 record AsLong (a b : List ℕ) : Type 0 where

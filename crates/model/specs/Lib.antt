@@ -8,3 +8,4 @@ pub mod Renumber
 pub mod Answers
 pub mod Calls
 pub mod Bound
+pub mod Worked

@@ -12,11 +12,11 @@ use lib.ListN.{getD, List·getD-eq-default}
 use borrow.Author.Tests.{le-ltb, lt-ltb}
 use Rattle.finite.specs.Tests.{all}
 use Rattle.finite.proofs.Tests.{all-T, all2-T, T-all, all-fails, T-true, and-left, and-right, T-and, and-four, first-of, eq-T, same-test, all-moved}
-use Rattle.permutation.specs.Permutation.{labels, permutations, words, image, first, numbered, composite, inverse, fits, known}
+use Rattle.permutation.specs.Permutation.{labels, permutations, words, image, leastFrom, numbered, composite, inverse, fits, known}
 
 -- The paper's examples
 pub examples : (composite 1 6 ≡ 7) × (composite 9 9 ≡ 16) × (composite 1 2 ≡ 3) × (composite 2 1 ≡ 4) × (inverse 3 ≡ 4)
-unfolding composite inverse numbered first image words all
+unfolding composite inverse numbered leastFrom image words all
 examples = (refl, refl, refl, refl, refl)
 
 -- One test of each pair of permutations: the composite is a permutation number and sends each label where the two send it one after the other
@@ -24,7 +24,7 @@ composes : ℕ → ℕ → Bool
 composes q r = ltb (composite q r) permutations && all labels (λ x. eqb (image (composite q r) x) (image r (image q x)))
 
 composes-all : T (all permutations (λ q. all permutations (composes q)))
-unfolding composes composite numbered first image words all
+unfolding composes composite numbered leastFrom image words all
 composes-all = tt
 
 -- One test of each permutation: its inverse is one, they take one another back, and labels go to labels
@@ -36,7 +36,7 @@ inverts q =
     && all labels (λ x. ltb (image q x) labels)))
 
 inverts-all : T (all permutations inverts)
-unfolding inverts inverse first image words all
+unfolding inverts inverse leastFrom image words all
 inverts-all = tt
 
 -- One test of each pair: two permutations with the same images are one
@@ -190,7 +190,7 @@ fits-back : ℕ → ℕ → Bool
 fits-back q n = fits (inverse q) n || not (fits q n)
 
 fits-back-all : T (all permutations (λ q. all (suc labels) (fits-back q)))
-unfolding fits-back fits inverse first image words all
+unfolding fits-back fits inverse leastFrom image words all
 fits-back-all = tt
 
 pub fits-inverse : (q n : ℕ) → T (fits q n) → T (fits (inverse q) n)
@@ -252,7 +252,7 @@ composite-known q r i = numbered (λ x. image-known r i (image-known q i x))
 
 pub inverse-known : (q : ℕ) → inverse (known q) ≡ inverse q
 unfolding inverse
-inverse-known q i = first permutations (λ s. all labels (λ x. eqb (image s (image-known q i x)) x)) 0
+inverse-known q i = leastFrom permutations (λ s. all labels (λ x. eqb (image s (image-known q i x)) x)) 0
 
 pub known-below : (q : ℕ) → q < permutations → q ≡ known q
 unfolding known

@@ -26,14 +26,14 @@ words =
 unfoldable pub image : ℕ → ℕ → ℕ
 image q x = cond (ltb x labels) (getD words (q * labels + x) x) x
 
--- the first number below n that T-true, or n
-unfoldable pub first : ℕ → (ℕ → Bool) → ℕ → ℕ
-first zero f k = k
-first (suc n) f k = elim (f k) [ true ↦ k | false ↦ first n f (suc k) ]
+-- the least number from k on, of n, that passes f, or k + n
+unfoldable pub leastFrom : ℕ → (ℕ → Bool) → ℕ → ℕ
+leastFrom zero f k = k
+leastFrom (suc n) f k = elim (f k) [ true ↦ k | false ↦ leastFrom n f (suc k) ]
 
 -- the number of the permutation that sends each label x to g x
 unfoldable pub numbered : (ℕ → ℕ) → ℕ
-numbered g = first permutations (λ s. all labels (λ x. eqb (image s x) (g x))) 0
+numbered g = leastFrom permutations (λ s. all labels (λ x. eqb (image s x) (g x))) 0
 
 -- first q, then r
 unfoldable pub composite : ℕ → ℕ → ℕ
@@ -41,7 +41,7 @@ composite q r = numbered (λ x. image r (image q x))
 
 -- the permutation that takes q back
 unfoldable pub inverse : ℕ → ℕ
-inverse q = first permutations (λ s. all labels (λ x. eqb (image s (image q x)) x)) 0
+inverse q = leastFrom permutations (λ s. all labels (λ x. eqb (image s (image q x)) x)) 0
 
 -- q is a permutation number and maps the labels below n onto themselves
 unfoldable pub fits : ℕ → ℕ → Bool

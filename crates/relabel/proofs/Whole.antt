@@ -1,13 +1,13 @@
 -- The renumbered case, field by field.
 -- Assumes nothing.
-use Prim.Native.Nat.{ℕ, zero, suc, _+_, _*_, _%_, _^_, _≤_, _<_}
-use mathlib.Core.Path.{_≡_, refl, sym, ap, ap₂, _∙_}
-use mathlib.Core.Bool.{Bool, true, false, cond, _&&_, true≢false}
+use Prim.Native.Nat.{ℕ, zero, suc, _+_, _*_, _<_}
+use mathlib.Core.Path.{_≡_, refl, sym, ap, _∙_}
+use mathlib.Core.Bool.{Bool, true, false, cond, _&&_}
 use mathlib.Core.List.{List, [], _∷_, _++_, map}
 use native.Mathlib.Nat.{zero-add}
 use native.Mathlib.Omega.{arith}
 use lib.Dec.{T, eqb}
-use lib.ListN.{length, getD, drop, replicate}
+use lib.ListN.{getD, drop, replicate}
 use borrow.Author.Tests.{eqb-true, ne-eqb}
 use Rattle.finite.specs.Tests.{count}
 use Rattle.finite.specs.Lists.{table}
@@ -49,7 +49,7 @@ unfolding relabel
 relabel-pick q r k t a v true h = rw h
 relabel-pick q r k t a v false h = rw h
 
-bare-store : (k : ℕ) → bare k ≡ true → eqb k store ≡ false
+pub bare-store : (k : ℕ) → bare k ≡ true → eqb k store ≡ false
 bare-store k h = ne-eqb k store (λ e. let z : k ≡ sync = eqb-true k sync h in omega arith)
 
 store-pick : (k t a v x : ℕ) (b : Bool) → bare k ≡ b → (eqb k store && eqb a x) ≡ (eqb (pick k t a v b .kind) store && eqb (pick k t a v b .address) x)

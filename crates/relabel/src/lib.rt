@@ -52,9 +52,12 @@ fn copy_rows(rows: &[u64], from: usize, k: usize, out: &mut [u64])
 }
 
 // The initial values, each at its address's new label.
-fn initials(r: usize, m: usize, initial: &[u32]) -> [u32; Case::MOST_ADDRESSES]
+fn initials(
+    r: usize,
+    m: usize,
+    initial: &[u32; Case::MOST_ADDRESSES],
+) -> [u32; Case::MOST_ADDRESSES]
     requires { ⌜ m ≤ mostAddresses ⌝ }
-    requires { ⌜ length (now initial) ≡ mostAddresses ⌝ }
     ensures { λ out. ⌜ out ≡ pad mostAddresses (table 0 m (λ y. getD (now (initial .entry)) (imageOf (inverseOf r) y) 0)) ⌝ }
 {
     let back = permutation::inverse(r);
@@ -68,9 +71,8 @@ fn initials(r: usize, m: usize, initial: &[u32]) -> [u32; Case::MOST_ADDRESSES]
 }
 
 // The events' threads by their new labels.
-fn threads(q: usize, k: usize, thread: &[u8]) -> [u8; Case::MOST_EVENTS]
+fn threads(q: usize, k: usize, thread: &[u8; Case::MOST_EVENTS]) -> [u8; Case::MOST_EVENTS]
     requires { ⌜ k ≤ mostEvents ⌝ }
-    requires { ⌜ length (now thread) ≡ mostEvents ⌝ }
     ensures { λ out. ⌜ out ≡ pad mostEvents (table 0 k (λ e. imageOf q (getD (now (thread .entry)) e 0))) ⌝ }
 {
     let mut out = [0u8; Case::MOST_EVENTS];
@@ -93,10 +95,13 @@ fn address(r: usize, kind: u8, x: u8) -> u8
 }
 
 // The events' addresses by their new labels.
-fn addresses<'a>(r: usize, k: usize, kinds: &'a [u8], xs: &'a [u8]) -> [u8; Case::MOST_EVENTS]
+fn addresses<'a>(
+    r: usize,
+    k: usize,
+    kinds: &'a [u8; Case::MOST_EVENTS],
+    xs: &'a [u8; Case::MOST_EVENTS],
+) -> [u8; Case::MOST_EVENTS]
     requires { ⌜ k ≤ mostEvents ⌝ }
-    requires { ⌜ length (now kinds) ≡ mostEvents ⌝ }
-    requires { ⌜ length (now xs) ≡ mostEvents ⌝ }
     ensures { λ out. ⌜ out ≡ pad mostEvents (table 0 k (λ e. cond (bareOf (getD (now (kinds .entry)) e 0)) 0 (imageOf r (getD (now (xs .entry)) e 0)))) ⌝ }
 {
     let mut out = [0u8; Case::MOST_EVENTS];
@@ -119,10 +124,12 @@ fn value(kind: u8, v: u32) -> u32
 }
 
 // The events' values.
-fn values<'a>(k: usize, kinds: &'a [u8], vs: &'a [u32]) -> [u32; Case::MOST_EVENTS]
+fn values<'a>(
+    k: usize,
+    kinds: &'a [u8; Case::MOST_EVENTS],
+    vs: &'a [u32; Case::MOST_EVENTS],
+) -> [u32; Case::MOST_EVENTS]
     requires { ⌜ k ≤ mostEvents ⌝ }
-    requires { ⌜ length (now kinds) ≡ mostEvents ⌝ }
-    requires { ⌜ length (now vs) ≡ mostEvents ⌝ }
     ensures { λ out. ⌜ out ≡ pad mostEvents (table 0 k (λ e. cond (bareOf (getD (now (kinds .entry)) e 0)) 0 (getD (now (vs .entry)) e 0))) ⌝ }
 {
     let mut out = [0u32; Case::MOST_EVENTS];
@@ -145,10 +152,13 @@ fn stores_to(kind: u8, a: u8, x: usize) -> bool
 }
 
 // How many of k events are stores to x.
-fn stores<'a>(k: usize, kinds: &'a [u8], xs: &'a [u8], x: usize) -> usize
+fn stores<'a>(
+    k: usize,
+    kinds: &'a [u8; Case::MOST_EVENTS],
+    xs: &'a [u8; Case::MOST_EVENTS],
+    x: usize,
+) -> usize
     requires { ⌜ k ≤ mostEvents ⌝ }
-    requires { ⌜ length (now kinds) ≡ mostEvents ⌝ }
-    requires { ⌜ length (now xs) ≡ mostEvents ⌝ }
     ensures { λ j. ⌜ j ≡ countOf k (λ e. eqb (getD (now (kinds .entry)) e 0) store && eqb (getD (now (xs .entry)) e 0) x) ⌝ }
 {
     let mut j: usize = 0;
@@ -167,14 +177,12 @@ fn write_orders<'a>(
     r: usize,
     m: usize,
     k: usize,
-    kinds: &'a [u8],
-    xs: &'a [u8],
+    kinds: &'a [u8; Case::MOST_EVENTS],
+    xs: &'a [u8; Case::MOST_EVENTS],
     writes: &'a [u8],
 ) -> [u8; Case::MOST_ADDRESSES * Case::MOST_EVENTS]
     requires { ⌜ m ≤ mostAddresses ⌝ }
     requires { ⌜ k ≤ mostEvents ⌝ }
-    requires { ⌜ length (now kinds) ≡ mostEvents ⌝ }
-    requires { ⌜ length (now xs) ≡ mostEvents ⌝ }
     requires { ⌜ length (now writes) ≡ mostAddresses * mostEvents ⌝ }
     ensures { λ out. ⌜ out ≡ pad (mostAddresses * mostEvents) (rowsOf mostEvents (table 0 m (λ y. writeOrder k (now (kinds .entry)) (now (xs .entry)) (now (writes .entry)) (imageOf (inverseOf r) y)))) ⌝ }
 {
@@ -225,6 +233,8 @@ pub fn relabel(c: Case, q: usize, r: usize) -> Case
 {
     let m = c.addresses;
     let k = c.events;
+    let writes = write_orders(r, m, k, &c.kind, &c.address, &c.writes);
+    let rows = orders(q, c.threads, k, &c.rows);
     let mut kind = [0u8; Case::MOST_EVENTS];
     copy(&c.kind, 0, k, &mut kind);
     let mut name = [0u8; Case::MOST_NAME];
@@ -239,8 +249,8 @@ pub fn relabel(c: Case, q: usize, r: usize) -> Case
         thread: threads(q, k, &c.thread),
         address: addresses(r, k, &c.kind, &c.address),
         value: values(k, &c.kind, &c.value),
-        writes: write_orders(r, m, k, &c.kind, &c.address, &c.writes),
-        rows: orders(q, c.threads, k, &c.rows),
+        writes,
+        rows,
         name,
         namelength: c.namelength,
     }

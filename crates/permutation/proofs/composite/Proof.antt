@@ -3,7 +3,7 @@ use mathlib.Core.List.{List, [], _∷_}
 use Prim.Native.Nat.{ℕ}
 use Rattle.finite.specs.Tests.{all}
 use Rattle.permutation.proofs.Table.{table-at}
-use Rattle.permutation.specs.Permutation.{words, image, first, numbered, composite, permutations}
+use Rattle.permutation.specs.Permutation.{words, image, leastFrom, numbered, composite, permutations}
 use Rattle.permutation.proofs.Laws.{composite-known}
 use borrow.Author.Needs.{needs}
 use Rattle.permutation.proofs.composite.Statement.{statement}
@@ -66,7 +66,7 @@ composites =
     23 ∷ 17 ∷ 21 ∷ 11 ∷ 15 ∷ 9 ∷ 22 ∷ 16 ∷ 19 ∷ 5 ∷ 13 ∷ 3 ∷ 20 ∷ 10 ∷ 18 ∷ 4 ∷ 7 ∷ 1 ∷ 14 ∷ 8 ∷ 12 ∷ 2 ∷ 6 ∷ 0 ∷ []
 
 returns : tie.Need-returns
-unfolding composites composite numbered first image words all
+unfolding composites composite numbered leastFrom image words all
 returns c =
     let b = c .before .known2 in
     let a = c .before .before .known in

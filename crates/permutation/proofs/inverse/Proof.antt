@@ -3,7 +3,7 @@ use mathlib.Core.List.{List, [], _∷_}
 use Prim.Native.Nat.{ℕ}
 use Rattle.finite.specs.Tests.{all}
 use Rattle.permutation.proofs.Table.{line-at}
-use Rattle.permutation.specs.Permutation.{words, image, first, inverse, permutations}
+use Rattle.permutation.specs.Permutation.{words, image, leastFrom, inverse, permutations}
 use Rattle.permutation.proofs.Laws.{inverse-known}
 use borrow.Author.Needs.{needs}
 use Rattle.permutation.proofs.inverse.Statement.{statement}
@@ -31,7 +31,7 @@ inverses =
     0 ∷ 1 ∷ 2 ∷ 4 ∷ 3 ∷ 5 ∷ 6 ∷ 7 ∷ 12 ∷ 18 ∷ 13 ∷ 19 ∷ 8 ∷ 10 ∷ 14 ∷ 20 ∷ 16 ∷ 22 ∷ 9 ∷ 11 ∷ 15 ∷ 21 ∷ 17 ∷ 23 ∷ []
 
 returns : tie.Need-returns
-unfolding inverses inverse first image words all
+unfolding inverses inverse leastFrom image words all
 returns c =
     let a = c .before .known in
     c .wide .ensures ∙ line-at permutations inverse inverses tt (a .result) (a .ensures .1) ∙ ap inverse (a .ensures .0) ∙ inverse-known _

@@ -25,7 +25,7 @@ initials-spec =
     (λ c. search begun-zeros)
     (λ c κs. search needs)
     (λ c. omega (arith, pulled-below _ _ _ (c .image .ensures) (omega arith)))
-    (λ c. omega (arith, pulled-below _ _ _ (c .before .image .ensures) (omega arith)))
+    (λ c. omega (arith, pulled-below _ _ _ (c .image .ensures) (omega arith)))
     (λ c. search needs)
     (λ c. search needs)
     (λ c. search needs)

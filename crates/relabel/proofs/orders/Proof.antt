@@ -39,8 +39,10 @@ orders-spec =
     ))
     (λ c. search needs)
     (λ c. search needs)
-    (λ c. let a = c .before .before .before .before .before .before .before .before .args in
-    let l = c .before .before .before .before .before .loop in
-    order-next (a .q) (a .n) (a .k) (a .rows .now) _ _ (l .p) _ (l .out) _ (l .inv) (omega arith) (step-size (l .p))
-    (c .before .before .before .image .ensures) (c .before .before .before .before .before .before .inverse .ensures) (c .before .copy-rows .ensures))
+    (λ c. let x = c .before .before .before in
+    let l = x .before .before in
+    let i = l .before in
+    let a = i .before .before .args in
+    order-next (a .q) (a .n) (a .k) (a .rows .now) _ _ (l .loop .p) _ (l .loop .out) _ (l .loop .inv) (omega arith) (step-size (l .loop .p))
+    (x .image .ensures) (i .inverse .ensures) (c .before .copy-rows .ensures))
     (λ c. search table-all))

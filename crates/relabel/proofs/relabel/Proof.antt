@@ -8,33 +8,25 @@ pub relabel-spec : {M : Type 1} → statement M
 relabel-spec =
     tie.close
     (tie.spec
+    (λ c κs. search needs)
+    (λ c κs. search needs)
     (λ c. search needs)
     (λ c κs. search needs)
     (λ c. search needs)
     (λ c κs. search needs)
     (λ c κs. search needs)
-    (λ c κs. search needs)
-    (λ c κs. search needs)
-    (λ c κs. let s = c .before .before .before .before .before .before .before .before .before .before .before .before .before .before .before .before .before .before .before .before .before .before .before .before .before .before .before .before .before .before .before in
-    let good = s .good in
-    let sound = s .pre .0 in
-    (sound .events-most, (search needs, search needs)))
-    (λ c κs. let s = c .before .before .before .before .before .before .before .before .before .before .before .before .before .before .before .before .before .before .before .before .before .before .before .before .before .before .before .before .before .before .before .before .before .before .before .before .before .before .before in
-    let good = s .good in
-    let sound = s .pre .0 in
-    (sound .addresses-most, (sound .events-most, (search needs, (search needs, search needs)))))
-    (λ c κs. let s = c .before .before .before .before .before .before .before .before .before .before .before .before .before .before .before .before .before .before .before .before .before .before .before .before .before .before .before .before .before .before .before .before .before .before .before .before .before .before .before .before .before .before .before in
-    let good = s .good in
-    let sound = s .pre .0 in
-    (sound .threads-most, (sound .events-most, search needs)))
-    (λ c. let w = c .before .before .before .before in
-    let v = w .before .before .before .before .before .before .before .before in
-    let a = v .before .before .before .before .before .before in
-    let t = a .before .before .before .before .before .before in
-    let i = t .before .before .before .before in
-    let n = i .before .before .before .before .before in
+    (λ c κs. c .before .before .before .before .before .before .before .before .before .before .before .before .before .before .before .before .before .before .before .before .before .before .before .before .before .before .before .pre .0 .events-most)
+    (λ c κs. c .before .before .before .before .before .before .before .before .before .before .before .before .before .before .before .before .before .before .before .before .before .before .before .before .before .before .before .before .before .before .before .pre .0 .events-most)
+    (λ c κs. c .before .before .before .before .before .before .before .before .before .before .before .before .before .before .before .before .before .before .before .before .before .before .before .before .before .before .before .before .before .before .before .before .before .before .before .pre .0 .events-most)
+    (λ c. let a = c .before .before .before .before in
+    let t = a .before .before .before .before in
+    let i = t .before .before .before in
+    let n = i .before .before .before .before in
     let k = n .before .before .before .before .before .before in
-    let s = k .before .before .before .before .before in
-    renumbered (s .args .q) (s .args .r) (s .args .t1) (s .pre .1) _ _ _ _ _ _ _ _ (i .initials .ensures)
-    (copied mostEvents (s .args .t1 .events) (s .args .t1 .kind) _ (k .copy .ensures)) (t .threads .ensures) (a .addresses .ensures) (v .values .ensures)
-    (w .write-orders .ensures) (c .orders .ensures) (copied mostName (s .args .t1 .namelength) (s .args .t1 .name) _ (n .copy2 .ensures))))
+    let o = k .before .before .before .before .before in
+    let w = o .before .before .before .before in
+    let s = w .before .before .before .before .before .before in
+    let h = s .args .t1 in
+    renumbered (s .args .q) (s .args .r) h (s .pre .1) _ _ _ _ _ _ _ _ (i .initials .ensures)
+    (copied mostEvents (h .events) (h .kind) _ (k .copy .ensures)) (t .threads .ensures) (a .addresses .ensures) (c .values .ensures)
+    (w .write-orders .ensures) (o .orders .ensures) (copied mostName (h .namelength) (h .name) _ (n .copy2 .ensures))))

@@ -1,4 +1,3 @@
-use borrow.Author.Needs.{needs}
 use Rattle.relabel.proofs.Steps.{both-yes, both-no}
 use Rattle.relabel.proofs.stores_to.Statement.{statement}
 use Rattle.relabel.proofs.stores_to.Tie as tie

@@ -23,7 +23,7 @@ write-orders-spec =
     Inv-loop
     μ-loop
     (λ c κs. search needs)
-    (λ c. let a = c .before .before .before .before .args in
+    (λ c. let a = c .before .before .args in
     table-begun _ _ _ (omega arith) (write-small (a .r) (a .m) (a .k) (a .kinds .now) (a .xs .now) (a .writes .now) (omega arith)))
     (λ c κs. search needs)
     (λ c κs. search needs)
@@ -39,8 +39,11 @@ write-orders-spec =
     ))
     (λ c. search needs)
     (λ c. search needs)
-    (λ c. let a = c .before .before .before .before .before .before .before .before .before .before .before .args in
-    let l = c .before .before .before .before .before .before .loop in
-    write-next (a .r) (a .m) (a .k) (a .kinds .now) (a .xs .now) (a .writes .now) _ _ (l .y) _ _ (l .out) _ (l .inv) (omega arith) (step-size (l .y))
-    (c .before .before .before .before .image .ensures) (c .before .before .before .before .before .before .before .inverse .ensures) (c .before .before .before .stores .ensures) (c .before .copy .ensures))
+    (λ c. let k = c .before .before .before in
+    let x = k .before in
+    let l = x .before .before in
+    let i = l .before in
+    let a = i .before .before .args in
+    write-next (a .r) (a .m) (a .k) (a .kinds .now) (a .xs .now) (a .writes .now) _ _ (l .loop .y) _ _ (l .loop .out) _ (l .loop .inv) (omega arith) (step-size (l .loop .y))
+    (x .image .ensures) (i .inverse .ensures) (k .stores .ensures) (c .before .copy .ensures))
     (λ c. search table-all))

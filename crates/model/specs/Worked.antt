@@ -1,0 +1,1086 @@
+-- The worked cases: 01's ("Cases on the bench"), and one for each clause of each rule and for each refusal.
+-- A record's bytes stand a part to a line, long ones on several: edition, n, m and initial values; k and the events; write orders,
+-- if there are stores; each thread's order, its count first; the name's length and the name. The answer stands before them.
+-- Assumes nothing.
+use Prim.Native.Nat.{ℕ}
+use mathlib.Core.Bool.{Bool, true, false, _&&_}
+use mathlib.Core.List.{List, [], _∷_, _++_}
+use lib.Dec.{eqb}
+use lib.ListN.{length, take}
+use Rattle.finite.specs.Lists.{table}
+use Rattle.number.specs.Reader.{Out, stop, next}
+use Rattle.model.specs.Case.{Case, Event}
+use Rattle.model.specs.Written.{recordOf}
+use Rattle.model.specs.Answers.{Answer, refusal, done, answerOf, Stored, write, judge, judgeCase, renumberRecord, renumberCase, judgedName, renumberedName}
+
+pub data Row : Type 0 where
+  -- a record judged: under PPCw, under PPCs
+  judged : (weak strong : Answer) (bytes : List ℕ) → Row
+  judgedUnder : (model : ℕ) (answer : Answer) (bytes : List ℕ) → Row
+  -- a record renumbered into a buffer
+  renumbered : (q r at : ℕ) (answer : Answer) (bytes buffer after : List ℕ) → Row
+  -- the name beside a judging, beside a renumbering
+  named : (model : ℕ) (name bytes : List ℕ) → Row
+  namedRenumbered : (q r at : ℕ) (name bytes buffer : List ℕ) → Row
+  -- a case judged, renumbered to one with the record bytes, written into a buffer
+  judgedCase : (model : ℕ) (c : Case) (answer : Answer) → Row
+  renumberedCase : (q r : ℕ) (c : Case) (answer : Answer) (bytes : List ℕ) → Row
+  written : (c : Case) (at : ℕ) (answer : Answer) (buffer after : List ℕ) → Row
+
+-- both models answer alike
+abbrev pub alike : Answer → List ℕ → Row
+alike a s = judged a a s
+
+abbrev pub accepted : (length : ℕ) (finals : List ℕ) → Answer
+accepted i ends = record { number = 0; place = 0; length = i; finals = ends }
+
+abbrev pub broken : (rule length : ℕ) → Answer
+broken x i = record { number = x; place = 0; length = i; finals = 0 ∷ 0 ∷ 0 ∷ 0 ∷ [] }
+
+-- a lent buffer of i bytes: each holds its place
+unfoldable pub lent : ℕ → List ℕ
+lent i = table 0 i (λ b. b)
+
+-- a case of one event (none if k is 0) and no pairs, the fields in the record's order
+unfoldable pub one : (edition n m initial k kind thread address value : ℕ) (write name : List ℕ) → Case
+one edition n m initial k kind thread address value write name = record {
+  edition = edition;
+  n = n;
+  m = m;
+  k = k;
+  initials = initial ∷ [];
+  events = take k (record { kind = kind; thread = thread; address = address; value = value } ∷ []);
+  writes = write ∷ [];
+  orders = (0 ∷ []) ∷ [];
+  name = name;
+}
+
+unfoldable pub same : List ℕ → List ℕ → Bool
+same [] [] = true
+same [] (y ∷ ys) = false
+same (x ∷ xs) [] = false
+same (x ∷ xs) (y ∷ ys) = eqb x y && same xs ys
+
+abbrev pub sameAnswer : Answer → Answer → Bool
+sameAnswer a b = eqb (a .number) (b .number) && eqb (a .place) (b .place) && eqb (a .length) (b .length) && same (a .finals) (b .finals)
+
+abbrev pub sameStored : Stored → Answer → List ℕ → Bool
+sameStored w a after = sameAnswer (w .answer) a && same (w .buffer) after
+
+abbrev pub bytesOf : Out Case → List ℕ
+bytesOf (stop x p) = []
+bytesOf (next c i) = recordOf c
+
+-- the definitions give the row's answer
+unfoldable pub holds : Row → Bool
+holds (judged weak strong s) = sameAnswer (judge 0 s) weak && sameAnswer (judge 1 s) strong
+holds (judgedUnder model a s) = sameAnswer (judge model s) a
+holds (renumbered q r at a s buffer after) = sameStored (renumberRecord q r s buffer at) a after
+holds (named model name s) = same (judgedName model s) name
+holds (namedRenumbered q r at name s buffer) = same (renumberedName q r s (length buffer) at) name
+holds (judgedCase model c a) = sameAnswer (judgeCase model c) a
+holds (renumberedCase q r c a s) = sameAnswer (answerOf (renumberCase q r c)) a && same (bytesOf (renumberCase q r c)) s
+holds (written c at a buffer after) = sameStored (write c buffer at) a after
+
+unfoldable pub worked : List Row → Bool
+worked [] = true
+worked (x ∷ xs) = holds x && worked xs
+
+-- The paper's worked cases
+unfoldable pub paperCases : List Row
+paperCases =
+    -- The small record
+    alike (accepted 19 (1 ∷ 0 ∷ 0 ∷ 0 ∷ []))
+    (1 ∷ 1 ∷ 1 ∷ 0 ∷
+    2 ∷ 1 ∷ 0 ∷ 0 ∷ 1 ∷ 0 ∷ 0 ∷ 0 ∷ 1 ∷
+    0 ∷
+    1 ∷ 0 ∷ 1 ∷
+    1 ∷ 0x61 ∷ []) ∷
+    -- Its load holds 0
+    alike (broken 16 19)
+    (1 ∷ 1 ∷ 1 ∷ 0 ∷
+    2 ∷ 1 ∷ 0 ∷ 0 ∷ 1 ∷ 0 ∷ 0 ∷ 0 ∷ 0 ∷
+    0 ∷
+    1 ∷ 0 ∷ 1 ∷
+    1 ∷ 0x61 ∷ []) ∷
+    -- Its load holds 2
+    alike (broken 16 19)
+    (1 ∷ 1 ∷ 1 ∷ 0 ∷
+    2 ∷ 1 ∷ 0 ∷ 0 ∷ 1 ∷ 0 ∷ 0 ∷ 0 ∷ 2 ∷
+    0 ∷
+    1 ∷ 0 ∷ 1 ∷
+    1 ∷ 0x61 ∷ []) ∷
+    -- The small record without pairs
+    alike (broken 12 17)
+    (1 ∷ 1 ∷ 1 ∷ 0 ∷
+    2 ∷ 1 ∷ 0 ∷ 0 ∷ 1 ∷ 0 ∷ 0 ∷ 0 ∷ 1 ∷
+    0 ∷
+    0 ∷
+    1 ∷ 0x61 ∷ []) ∷
+    -- With the pairs 0, 1 and 1, 0
+    alike (broken 11 21)
+    (1 ∷ 1 ∷ 1 ∷ 0 ∷
+    2 ∷ 1 ∷ 0 ∷ 0 ∷ 1 ∷ 0 ∷ 0 ∷ 0 ∷ 1 ∷
+    0 ∷
+    2 ∷ 0 ∷ 1 ∷ 1 ∷ 0 ∷
+    1 ∷ 0x61 ∷ []) ∷
+    -- With the pair 1, 0 alone
+    alike (broken 13 19)
+    (1 ∷ 1 ∷ 1 ∷ 0 ∷
+    2 ∷ 1 ∷ 0 ∷ 0 ∷ 1 ∷ 0 ∷ 0 ∷ 0 ∷ 1 ∷
+    0 ∷
+    1 ∷ 1 ∷ 0 ∷
+    1 ∷ 0x61 ∷ []) ∷
+    -- Two stores in one order, written in the other
+    alike (broken 14 19)
+    (1 ∷ 1 ∷ 1 ∷ 0 ∷
+    2 ∷ 1 ∷ 0 ∷ 0 ∷ 1 ∷ 1 ∷ 0 ∷ 0 ∷ 2 ∷
+    1 ∷ 0 ∷
+    1 ∷ 0 ∷ 1 ∷
+    0 ∷ []) ∷
+    -- Dekker
+    judged (accepted 77 (1 ∷ 1 ∷ 0 ∷ 0 ∷ [])) (broken 16 77)
+    (1 ∷ 2 ∷ 2 ∷ 0 ∷ 0 ∷
+    6 ∷ 1 ∷ 0 ∷ 0 ∷ 1 ∷ 2 ∷ 0 ∷ 0 ∷ 0 ∷ 1 ∷ 0 ∷ 1 ∷ 1 ∷ 1 ∷ 1 ∷ 2 ∷ 1 ∷ 0 ∷ 1 ∷ 0 ∷ 0 ∷
+    0 ∷ 3 ∷
+    10 ∷ 0 ∷ 1 ∷ 0 ∷ 2 ∷ 0 ∷ 3 ∷ 0 ∷ 5 ∷ 1 ∷ 2 ∷ 1 ∷ 3 ∷ 1 ∷ 5 ∷ 2 ∷ 3 ∷ 2 ∷ 5 ∷ 3 ∷ 5 ∷
+    10 ∷ 0 ∷ 2 ∷ 3 ∷ 0 ∷ 3 ∷ 2 ∷ 3 ∷ 4 ∷ 3 ∷ 5 ∷ 4 ∷ 0 ∷ 4 ∷ 2 ∷ 4 ∷ 5 ∷ 5 ∷ 0 ∷ 5 ∷ 2 ∷
+    6 ∷ 0x44 ∷ 0x65 ∷ 0x6B ∷ 0x6B ∷ 0x65 ∷ 0x72 ∷ []) ∷
+    -- Message
+    alike (broken 18 54)
+    (1 ∷ 2 ∷ 2 ∷ 0 ∷ 0 ∷
+    5 ∷ 1 ∷ 0 ∷ 0 ∷ 1 ∷ 2 ∷ 0 ∷ 1 ∷ 0 ∷ 1 ∷ 1 ∷ 0 ∷ 1 ∷ 1 ∷ 1 ∷ 0 ∷ 1 ∷ 0 ∷ 1 ∷
+    0 ∷ 2 ∷
+    3 ∷ 0 ∷ 1 ∷ 0 ∷ 2 ∷ 1 ∷ 2 ∷
+    6 ∷ 0 ∷ 2 ∷ 0 ∷ 3 ∷ 0 ∷ 4 ∷ 2 ∷ 3 ∷ 2 ∷ 4 ∷ 3 ∷ 4 ∷
+    7 ∷ 0x4D ∷ 0x65 ∷ 0x73 ∷ 0x73 ∷ 0x61 ∷ 0x67 ∷ 0x65 ∷ []) ∷
+    -- Message with the pair 0, 4 in thread 0's order
+    alike (accepted 56 (1 ∷ 1 ∷ 0 ∷ 0 ∷ []))
+    (1 ∷ 2 ∷ 2 ∷ 0 ∷ 0 ∷
+    5 ∷ 1 ∷ 0 ∷ 0 ∷ 1 ∷ 2 ∷ 0 ∷ 1 ∷ 0 ∷ 1 ∷ 1 ∷ 0 ∷ 1 ∷ 1 ∷ 1 ∷ 0 ∷ 1 ∷ 0 ∷ 1 ∷
+    0 ∷ 2 ∷
+    4 ∷ 0 ∷ 1 ∷ 0 ∷ 2 ∷ 0 ∷ 4 ∷ 1 ∷ 2 ∷
+    6 ∷ 0 ∷ 2 ∷ 0 ∷ 3 ∷ 0 ∷ 4 ∷ 2 ∷ 3 ∷ 2 ∷ 4 ∷ 3 ∷ 4 ∷
+    7 ∷ 0x4D ∷ 0x65 ∷ 0x73 ∷ 0x73 ∷ 0x61 ∷ 0x67 ∷ 0x65 ∷ []) ∷
+    -- CC
+    alike (broken 17 70)
+    (1 ∷ 3 ∷ 2 ∷ 0 ∷ 0 ∷
+    7 ∷ 0 ∷ 0 ∷ 0 ∷ 1 ∷ 2 ∷ 0 ∷ 1 ∷ 0 ∷ 1 ∷ 1 ∷ 0 ∷ 1 ∷ 1 ∷ 1 ∷ 2 ∷ 1 ∷ 0 ∷ 1 ∷ 0 ∷ 0 ∷ 1 ∷ 2 ∷ 0 ∷ 1 ∷
+    6 ∷ 2 ∷
+    6 ∷ 0 ∷ 1 ∷ 0 ∷ 2 ∷ 1 ∷ 2 ∷ 6 ∷ 0 ∷ 6 ∷ 1 ∷ 6 ∷ 2 ∷
+    10 ∷ 2 ∷ 3 ∷ 2 ∷ 4 ∷ 2 ∷ 5 ∷ 2 ∷ 6 ∷ 3 ∷ 4 ∷ 3 ∷ 5 ∷ 3 ∷ 6 ∷ 4 ∷ 5 ∷ 4 ∷ 6 ∷ 5 ∷ 6 ∷
+    0 ∷
+    2 ∷ 0x43 ∷ 0x43 ∷ []) ∷
+    -- Message, thread 1's order from 3 < 4 alone
+    alike (broken 15 44)
+    (1 ∷ 2 ∷ 2 ∷ 0 ∷ 0 ∷
+    5 ∷ 1 ∷ 0 ∷ 0 ∷ 1 ∷ 2 ∷ 0 ∷ 1 ∷ 0 ∷ 1 ∷ 1 ∷ 0 ∷ 1 ∷ 1 ∷ 1 ∷ 0 ∷ 1 ∷ 0 ∷ 1 ∷
+    0 ∷ 2 ∷
+    3 ∷ 0 ∷ 1 ∷ 0 ∷ 2 ∷ 1 ∷ 2 ∷
+    1 ∷ 3 ∷ 4 ∷
+    7 ∷ 0x4D ∷ 0x65 ∷ 0x73 ∷ 0x73 ∷ 0x61 ∷ 0x67 ∷ 0x65 ∷ []) ∷
+    -- IRIW
+    judged (accepted 145 (1 ∷ 1 ∷ 0 ∷ 0 ∷ [])) (broken 15 145)
+    (1 ∷ 4 ∷ 2 ∷ 0 ∷ 0 ∷
+    8 ∷ 0 ∷ 0 ∷ 0 ∷ 1 ∷ 2 ∷ 0 ∷ 0 ∷ 0 ∷ 1 ∷ 0 ∷ 0 ∷ 1 ∷ 1 ∷ 1 ∷ 2 ∷ 1 ∷ 0 ∷ 1 ∷ 0 ∷ 0 ∷ 1 ∷ 2 ∷ 0 ∷ 1 ∷ 1 ∷ 3 ∷ 1 ∷ 1 ∷
+    6 ∷ 7 ∷
+    21 ∷ 0 ∷ 1 ∷ 0 ∷ 2 ∷ 0 ∷ 3 ∷ 0 ∷ 5 ∷ 0 ∷ 7 ∷ 1 ∷ 2 ∷ 1 ∷ 3 ∷ 1 ∷ 5 ∷ 1 ∷ 7 ∷ 2 ∷ 3 ∷ 2 ∷ 5 ∷ 2 ∷ 7 ∷ 3 ∷ 5 ∷ 6 ∷ 0 ∷
+    6 ∷ 1 ∷ 6 ∷ 2 ∷ 6 ∷ 3 ∷ 6 ∷ 5 ∷ 6 ∷ 7 ∷ 7 ∷ 3 ∷ 7 ∷ 5 ∷
+    21 ∷ 0 ∷ 2 ∷ 3 ∷ 0 ∷ 3 ∷ 2 ∷ 3 ∷ 4 ∷ 3 ∷ 5 ∷ 3 ∷ 6 ∷ 4 ∷ 0 ∷ 4 ∷ 2 ∷ 4 ∷ 5 ∷ 4 ∷ 6 ∷ 5 ∷ 0 ∷ 5 ∷ 2 ∷ 5 ∷ 6 ∷ 6 ∷ 0 ∷
+    6 ∷ 2 ∷ 7 ∷ 0 ∷ 7 ∷ 2 ∷ 7 ∷ 3 ∷ 7 ∷ 4 ∷ 7 ∷ 5 ∷ 7 ∷ 6 ∷
+    4 ∷ 0 ∷ 2 ∷ 3 ∷ 5 ∷ 6 ∷ 2 ∷ 7 ∷ 5 ∷
+    4 ∷ 0 ∷ 2 ∷ 3 ∷ 5 ∷ 6 ∷ 2 ∷ 7 ∷ 5 ∷
+    4 ∷ 0x49 ∷ 0x52 ∷ 0x49 ∷ 0x57 ∷ []) ∷
+    []
+
+-- What each clause of rules 11 to 14 says
+unfoldable pub orderCases : List Row
+orderCases =
+    -- 11, irreflexive: a lone sync before itself
+    alike (broken 11 11)
+    (1 ∷ 1 ∷ 1 ∷ 0 ∷
+    1 ∷ 2 ∷ 0 ∷
+    1 ∷ 0 ∷ 0 ∷
+    0 ∷ []) ∷
+    -- 11, transitive, in each thread's order; nothing is added by closure: Message, thread 1's pairs 0, 2 and 2, 3 and 3, 4 alone
+    alike (broken 11 48)
+    (1 ∷ 2 ∷ 2 ∷ 0 ∷ 0 ∷
+    5 ∷ 1 ∷ 0 ∷ 0 ∷ 1 ∷ 2 ∷ 0 ∷ 1 ∷ 0 ∷ 1 ∷ 1 ∷ 0 ∷ 1 ∷ 1 ∷ 1 ∷ 0 ∷ 1 ∷ 0 ∷ 1 ∷
+    0 ∷ 2 ∷
+    3 ∷ 0 ∷ 1 ∷ 0 ∷ 2 ∷ 1 ∷ 2 ∷
+    3 ∷ 0 ∷ 2 ∷ 2 ∷ 3 ∷ 3 ∷ 4 ∷
+    7 ∷ 0x4D ∷ 0x65 ∷ 0x73 ∷ 0x73 ∷ 0x61 ∷ 0x67 ∷ 0x65 ∷ []) ∷
+    -- 11 before 12: three loads, 0 before 1 and 1 before 2, but 0 and 2 unordered
+    alike (broken 11 23)
+    (1 ∷ 1 ∷ 1 ∷ 0 ∷
+    3 ∷ 0 ∷ 0 ∷ 0 ∷ 0 ∷ 0 ∷ 0 ∷ 0 ∷ 0 ∷ 0 ∷ 0 ∷ 0 ∷ 0 ∷
+    2 ∷ 0 ∷ 1 ∷ 1 ∷ 2 ∷
+    0 ∷ []) ∷
+    -- 12, of each thread: thread 1's loads unordered
+    alike (broken 12 20)
+    (1 ∷ 2 ∷ 1 ∷ 0 ∷
+    3 ∷ 0 ∷ 0 ∷ 0 ∷ 0 ∷ 0 ∷ 1 ∷ 0 ∷ 0 ∷ 0 ∷ 1 ∷ 0 ∷ 0 ∷
+    0 ∷
+    0 ∷
+    0 ∷ []) ∷
+    -- 12 takes either way, 13 leaves two addresses free: stores to x and y, the later listed before the earlier
+    alike (accepted 20 (1 ∷ 1 ∷ 0 ∷ 0 ∷ []))
+    (1 ∷ 1 ∷ 2 ∷ 0 ∷ 0 ∷
+    2 ∷ 1 ∷ 0 ∷ 0 ∷ 1 ∷ 1 ∷ 0 ∷ 1 ∷ 1 ∷
+    0 ∷ 1 ∷
+    1 ∷ 1 ∷ 0 ∷
+    0 ∷ []) ∷
+    -- 13, the later one is a sync
+    alike (broken 13 16)
+    (1 ∷ 1 ∷ 1 ∷ 0 ∷
+    2 ∷ 1 ∷ 0 ∷ 0 ∷ 1 ∷ 2 ∷ 0 ∷
+    0 ∷
+    1 ∷ 1 ∷ 0 ∷
+    0 ∷ []) ∷
+    -- 13, the earlier one is a sync
+    alike (broken 13 16)
+    (1 ∷ 1 ∷ 1 ∷ 0 ∷
+    2 ∷ 2 ∷ 0 ∷ 1 ∷ 0 ∷ 0 ∷ 1 ∷
+    1 ∷
+    1 ∷ 1 ∷ 0 ∷
+    0 ∷ []) ∷
+    -- 13 before 14: two stores to x, 1 before 0, written 0 before 1
+    alike (broken 13 19)
+    (1 ∷ 1 ∷ 1 ∷ 0 ∷
+    2 ∷ 1 ∷ 0 ∷ 0 ∷ 1 ∷ 1 ∷ 0 ∷ 0 ∷ 2 ∷
+    0 ∷ 1 ∷
+    1 ∷ 1 ∷ 0 ∷
+    0 ∷ []) ∷
+    -- 14, in each thread's order, of anyone's stores: thread 2 has the stores of threads 0 and 1 the other way
+    alike (broken 14 21)
+    (1 ∷ 3 ∷ 1 ∷ 0 ∷
+    2 ∷ 1 ∷ 0 ∷ 0 ∷ 1 ∷ 1 ∷ 1 ∷ 0 ∷ 2 ∷
+    0 ∷ 1 ∷
+    0 ∷
+    0 ∷
+    1 ∷ 1 ∷ 0 ∷
+    0 ∷ []) ∷
+    -- 14 before 15: two stores written the other way, and a load of 7 with no store before it
+    alike (broken 14 28)
+    (1 ∷ 1 ∷ 2 ∷ 0 ∷ 0 ∷
+    3 ∷ 1 ∷ 0 ∷ 0 ∷ 1 ∷ 1 ∷ 0 ∷ 0 ∷ 2 ∷ 0 ∷ 0 ∷ 1 ∷ 7 ∷
+    1 ∷ 0 ∷
+    3 ∷ 0 ∷ 1 ∷ 0 ∷ 2 ∷ 1 ∷ 2 ∷
+    0 ∷ []) ∷
+    []
+
+-- What each clause of 15 and 16 says, and of V(p)
+unfoldable pub valueCases : List Row
+valueCases =
+    -- 15, the initial value is that of the load's address; finals are initial values where nothing is stored
+    alike (accepted 18 (7 ∷ 5 ∷ 0 ∷ 0 ∷ []))
+    (1 ∷ 1 ∷ 2 ∷ 7 ∷ 5 ∷
+    2 ∷ 0 ∷ 0 ∷ 0 ∷ 7 ∷ 0 ∷ 0 ∷ 1 ∷ 5 ∷
+    1 ∷ 0 ∷ 1 ∷
+    0 ∷ []) ∷
+    -- 15, another address's initial value
+    alike (broken 15 18)
+    (1 ∷ 1 ∷ 2 ∷ 7 ∷ 5 ∷
+    2 ∷ 0 ∷ 0 ∷ 0 ∷ 7 ∷ 0 ∷ 0 ∷ 1 ∷ 7 ∷
+    1 ∷ 0 ∷ 1 ∷
+    0 ∷ []) ∷
+    -- 15, a store to another address before the load
+    alike (broken 15 19)
+    (1 ∷ 1 ∷ 2 ∷ 0 ∷ 0 ∷
+    2 ∷ 1 ∷ 0 ∷ 1 ∷ 1 ∷ 0 ∷ 0 ∷ 0 ∷ 1 ∷
+    0 ∷
+    1 ∷ 0 ∷ 1 ∷
+    0 ∷ []) ∷
+    -- 15, the store comes behind the load
+    alike (broken 15 18)
+    (1 ∷ 1 ∷ 1 ∷ 0 ∷
+    2 ∷ 0 ∷ 0 ∷ 0 ∷ 1 ∷ 1 ∷ 0 ∷ 0 ∷ 1 ∷
+    1 ∷
+    1 ∷ 0 ∷ 1 ∷
+    0 ∷ []) ∷
+    -- 15 and 16 of a thread's own load that stands in no pair: PPCw asks, PPCs doesn't
+    judged (broken 15 11) (done 11)
+    (1 ∷ 1 ∷ 1 ∷ 0 ∷
+    1 ∷ 0 ∷ 0 ∷ 0 ∷ 2 ∷
+    0 ∷
+    0 ∷ []) ∷
+    -- 15 before 16: 2 is not the store's value, and the load is unordered with the store
+    judged (broken 15 26) (accepted 26 (1 ∷ 0 ∷ 0 ∷ 0 ∷ []))
+    (1 ∷ 2 ∷ 2 ∷ 0 ∷ 0 ∷
+    3 ∷ 0 ∷ 0 ∷ 0 ∷ 2 ∷ 0 ∷ 1 ∷ 1 ∷ 0 ∷ 1 ∷ 1 ∷ 0 ∷ 1 ∷
+    2 ∷
+    1 ∷ 1 ∷ 2 ∷
+    1 ∷ 1 ∷ 2 ∷
+    0 ∷ []) ∷
+    -- 16, a store in V(0) because it comes behind another event
+    judged (broken 16 26) (accepted 26 (1 ∷ 0 ∷ 0 ∷ 0 ∷ []))
+    (1 ∷ 2 ∷ 2 ∷ 0 ∷ 0 ∷
+    3 ∷ 0 ∷ 0 ∷ 0 ∷ 0 ∷ 0 ∷ 1 ∷ 1 ∷ 0 ∷ 1 ∷ 1 ∷ 0 ∷ 1 ∷
+    2 ∷
+    1 ∷ 1 ∷ 2 ∷
+    1 ∷ 1 ∷ 2 ∷
+    0 ∷ []) ∷
+    -- 16, a store in V(0) because it comes before another event
+    judged (broken 16 26) (accepted 26 (1 ∷ 0 ∷ 0 ∷ 0 ∷ []))
+    (1 ∷ 2 ∷ 2 ∷ 0 ∷ 0 ∷
+    3 ∷ 0 ∷ 0 ∷ 0 ∷ 0 ∷ 0 ∷ 1 ∷ 1 ∷ 0 ∷ 1 ∷ 1 ∷ 0 ∷ 1 ∷
+    2 ∷
+    1 ∷ 2 ∷ 1 ∷
+    1 ∷ 1 ∷ 2 ∷
+    0 ∷ []) ∷
+    -- 16, a store outside V(0): two loads of 0 beside it
+    alike (accepted 23 (1 ∷ 0 ∷ 0 ∷ 0 ∷ []))
+    (1 ∷ 2 ∷ 1 ∷ 0 ∷
+    3 ∷ 0 ∷ 0 ∷ 0 ∷ 0 ∷ 0 ∷ 0 ∷ 0 ∷ 0 ∷ 1 ∷ 1 ∷ 0 ∷ 1 ∷
+    2 ∷
+    1 ∷ 0 ∷ 1 ∷
+    0 ∷
+    0 ∷ []) ∷
+    -- 16, another store between; the last store of the write order is the final value
+    alike (accepted 27 (2 ∷ 0 ∷ 0 ∷ 0 ∷ []))
+    (1 ∷ 1 ∷ 1 ∷ 0 ∷
+    3 ∷ 1 ∷ 0 ∷ 0 ∷ 1 ∷ 1 ∷ 0 ∷ 0 ∷ 2 ∷ 0 ∷ 0 ∷ 0 ∷ 2 ∷
+    0 ∷ 1 ∷
+    3 ∷ 0 ∷ 1 ∷ 0 ∷ 2 ∷ 1 ∷ 2 ∷
+    0 ∷ []) ∷
+    -- 16, the other store before s
+    alike (broken 16 27)
+    (1 ∷ 1 ∷ 1 ∷ 0 ∷
+    3 ∷ 1 ∷ 0 ∷ 0 ∷ 2 ∷ 1 ∷ 0 ∷ 0 ∷ 1 ∷ 0 ∷ 0 ∷ 0 ∷ 2 ∷
+    0 ∷ 1 ∷
+    3 ∷ 0 ∷ 1 ∷ 0 ∷ 2 ∷ 1 ∷ 2 ∷
+    0 ∷ []) ∷
+    -- 16, the other store behind the load
+    alike (broken 16 27)
+    (1 ∷ 1 ∷ 1 ∷ 0 ∷
+    3 ∷ 1 ∷ 0 ∷ 0 ∷ 1 ∷ 0 ∷ 0 ∷ 0 ∷ 2 ∷ 1 ∷ 0 ∷ 0 ∷ 2 ∷
+    0 ∷ 2 ∷
+    3 ∷ 0 ∷ 1 ∷ 0 ∷ 2 ∷ 1 ∷ 2 ∷
+    0 ∷ []) ∷
+    -- 16, a store to another address between
+    alike (broken 16 28)
+    (1 ∷ 1 ∷ 2 ∷ 0 ∷ 0 ∷
+    3 ∷ 1 ∷ 0 ∷ 0 ∷ 1 ∷ 1 ∷ 0 ∷ 1 ∷ 2 ∷ 0 ∷ 0 ∷ 0 ∷ 0 ∷
+    0 ∷ 1 ∷
+    3 ∷ 0 ∷ 1 ∷ 0 ∷ 2 ∷ 1 ∷ 2 ∷
+    0 ∷ []) ∷
+    -- 16 asks the thread's own order, not the write order: thread 0 has both stores before its load, but neither before the other
+    alike (broken 16 27)
+    (1 ∷ 3 ∷ 1 ∷ 0 ∷
+    3 ∷ 0 ∷ 0 ∷ 0 ∷ 2 ∷ 1 ∷ 1 ∷ 0 ∷ 1 ∷ 1 ∷ 2 ∷ 0 ∷ 2 ∷
+    1 ∷ 2 ∷
+    2 ∷ 1 ∷ 0 ∷ 2 ∷ 0 ∷
+    0 ∷
+    0 ∷
+    0 ∷ []) ∷
+    -- 16 under PPCs, of a foreign load, asks p's order: in thread 1's order the store of 2 lies between, in thread 0's it doesn't
+    judged (accepted 32 (2 ∷ 0 ∷ 0 ∷ 0 ∷ [])) (broken 16 32)
+    (1 ∷ 2 ∷ 1 ∷ 0 ∷
+    3 ∷ 1 ∷ 0 ∷ 0 ∷ 1 ∷ 1 ∷ 0 ∷ 0 ∷ 2 ∷ 0 ∷ 1 ∷ 0 ∷ 2 ∷
+    0 ∷ 1 ∷
+    2 ∷ 0 ∷ 1 ∷ 0 ∷ 2 ∷
+    3 ∷ 0 ∷ 1 ∷ 0 ∷ 2 ∷ 1 ∷ 2 ∷
+    0 ∷ []) ∷
+    -- 16 under PPCs, of a foreign load, asks for stores in p's V: the store of 1 is in V(0), not in V(1)
+    alike (accepted 26 (1 ∷ 0 ∷ 0 ∷ 0 ∷ []))
+    (1 ∷ 2 ∷ 2 ∷ 0 ∷ 0 ∷
+    3 ∷ 0 ∷ 0 ∷ 0 ∷ 0 ∷ 1 ∷ 0 ∷ 0 ∷ 1 ∷ 0 ∷ 1 ∷ 1 ∷ 0 ∷
+    1 ∷
+    1 ∷ 0 ∷ 1 ∷
+    1 ∷ 0 ∷ 2 ∷
+    0 ∷ []) ∷
+    -- 16 before 17: CC with a load of y = 2
+    alike (broken 16 70)
+    (1 ∷ 3 ∷ 2 ∷ 0 ∷ 0 ∷
+    7 ∷ 0 ∷ 0 ∷ 0 ∷ 1 ∷ 2 ∷ 0 ∷ 1 ∷ 0 ∷ 1 ∷ 1 ∷ 0 ∷ 1 ∷ 1 ∷ 2 ∷ 2 ∷ 1 ∷ 0 ∷ 1 ∷ 0 ∷ 0 ∷ 1 ∷ 2 ∷ 0 ∷ 1 ∷
+    6 ∷ 2 ∷
+    6 ∷ 0 ∷ 1 ∷ 0 ∷ 2 ∷ 1 ∷ 2 ∷ 6 ∷ 0 ∷ 6 ∷ 1 ∷ 6 ∷ 2 ∷
+    10 ∷ 2 ∷ 3 ∷ 2 ∷ 4 ∷ 2 ∷ 5 ∷ 2 ∷ 6 ∷ 3 ∷ 4 ∷ 3 ∷ 5 ∷ 3 ∷ 6 ∷ 4 ∷ 5 ∷ 4 ∷ 6 ∷ 5 ∷ 6 ∷
+    0 ∷
+    2 ∷ 0x43 ∷ 0x43 ∷ []) ∷
+    []
+
+-- What each clause of 17 and 18 says, and of reads-from
+unfoldable pub barrierCases : List Row
+barrierCases =
+    -- 17, e is anyone's: thread 1's store before thread 0's sync and store
+    alike (broken 17 27)
+    (1 ∷ 2 ∷ 2 ∷ 0 ∷ 0 ∷
+    3 ∷ 1 ∷ 1 ∷ 0 ∷ 1 ∷ 2 ∷ 0 ∷ 1 ∷ 0 ∷ 1 ∷ 1 ∷
+    0 ∷ 2 ∷
+    3 ∷ 0 ∷ 1 ∷ 0 ∷ 2 ∷ 1 ∷ 2 ∷
+    0 ∷
+    0 ∷ []) ∷
+    -- 17 and 18, f is of p: thread 1 has thread 0's sync before its own store
+    alike (accepted 44 (1 ∷ 1 ∷ 0 ∷ 0 ∷ []))
+    (1 ∷ 3 ∷ 2 ∷ 0 ∷ 0 ∷
+    5 ∷ 1 ∷ 0 ∷ 0 ∷ 1 ∷ 2 ∷ 0 ∷ 1 ∷ 1 ∷ 1 ∷ 1 ∷ 0 ∷ 2 ∷ 1 ∷ 1 ∷ 0 ∷ 2 ∷ 0 ∷ 0 ∷
+    0 ∷ 2 ∷
+    1 ∷ 0 ∷ 1 ∷
+    3 ∷ 0 ∷ 1 ∷ 0 ∷ 2 ∷ 1 ∷ 2 ∷
+    3 ∷ 2 ∷ 3 ∷ 2 ∷ 4 ∷ 3 ∷ 4 ∷
+    0 ∷ []) ∷
+    -- 17 before 18: Message with a load of x = 0, thread 1's order from 2 < 3 < 4
+    alike (broken 17 48)
+    (1 ∷ 2 ∷ 2 ∷ 0 ∷ 0 ∷
+    5 ∷ 1 ∷ 0 ∷ 0 ∷ 1 ∷ 2 ∷ 0 ∷ 1 ∷ 0 ∷ 1 ∷ 1 ∷ 0 ∷ 1 ∷ 1 ∷ 1 ∷ 0 ∷ 1 ∷ 0 ∷ 0 ∷
+    0 ∷ 2 ∷
+    3 ∷ 0 ∷ 1 ∷ 0 ∷ 2 ∷ 1 ∷ 2 ∷
+    3 ∷ 2 ∷ 3 ∷ 2 ∷ 4 ∷ 3 ∷ 4 ∷
+    7 ∷ 0x4D ∷ 0x65 ∷ 0x73 ∷ 0x73 ∷ 0x61 ∷ 0x67 ∷ 0x65 ∷ []) ∷
+    -- 18, e is anyone's: Message with the store to x on thread 2
+    alike (broken 18 50)
+    (1 ∷ 3 ∷ 2 ∷ 0 ∷ 0 ∷
+    5 ∷ 1 ∷ 2 ∷ 0 ∷ 1 ∷ 2 ∷ 0 ∷ 1 ∷ 0 ∷ 1 ∷ 1 ∷ 0 ∷ 1 ∷ 1 ∷ 1 ∷ 0 ∷ 1 ∷ 0 ∷ 1 ∷
+    0 ∷ 2 ∷
+    3 ∷ 0 ∷ 1 ∷ 0 ∷ 2 ∷ 1 ∷ 2 ∷
+    6 ∷ 0 ∷ 2 ∷ 0 ∷ 3 ∷ 0 ∷ 4 ∷ 2 ∷ 3 ∷ 2 ∷ 4 ∷ 3 ∷ 4 ∷
+    1 ∷ 0 ∷ 2 ∷
+    0 ∷ []) ∷
+    -- 18, f is a sync: Message with a store to z in its stead
+    alike (accepted 51 (1 ∷ 1 ∷ 1 ∷ 0 ∷ []))
+    (1 ∷ 2 ∷ 3 ∷ 0 ∷ 0 ∷ 0 ∷
+    5 ∷ 1 ∷ 0 ∷ 0 ∷ 1 ∷ 1 ∷ 0 ∷ 2 ∷ 1 ∷ 1 ∷ 0 ∷ 1 ∷ 1 ∷ 0 ∷ 1 ∷ 1 ∷ 1 ∷ 0 ∷ 1 ∷ 0 ∷ 1 ∷
+    0 ∷ 2 ∷ 1 ∷
+    3 ∷ 0 ∷ 1 ∷ 0 ∷ 2 ∷ 1 ∷ 2 ∷
+    6 ∷ 0 ∷ 2 ∷ 0 ∷ 3 ∷ 0 ∷ 4 ∷ 2 ∷ 3 ∷ 2 ∷ 4 ∷ 3 ∷ 4 ∷
+    0 ∷ []) ∷
+    -- 18, f comes before s: the sync behind both stores
+    alike (accepted 47 (1 ∷ 1 ∷ 0 ∷ 0 ∷ []))
+    (1 ∷ 2 ∷ 2 ∷ 0 ∷ 0 ∷
+    5 ∷ 1 ∷ 0 ∷ 1 ∷ 1 ∷ 1 ∷ 0 ∷ 0 ∷ 1 ∷ 2 ∷ 0 ∷ 0 ∷ 1 ∷ 0 ∷ 1 ∷ 0 ∷ 1 ∷ 1 ∷ 1 ∷
+    1 ∷ 0 ∷
+    3 ∷ 0 ∷ 1 ∷ 0 ∷ 2 ∷ 1 ∷ 2 ∷
+    6 ∷ 0 ∷ 1 ∷ 0 ∷ 3 ∷ 0 ∷ 4 ∷ 1 ∷ 3 ∷ 1 ∷ 4 ∷ 3 ∷ 4 ∷
+    0 ∷ []) ∷
+    -- 18, s is of p: thread 1's store behind thread 0's sync
+    alike (accepted 42 (1 ∷ 1 ∷ 0 ∷ 0 ∷ []))
+    (1 ∷ 3 ∷ 2 ∷ 0 ∷ 0 ∷
+    5 ∷ 1 ∷ 0 ∷ 0 ∷ 1 ∷ 2 ∷ 0 ∷ 1 ∷ 1 ∷ 1 ∷ 1 ∷ 0 ∷ 2 ∷ 1 ∷ 1 ∷ 0 ∷ 2 ∷ 0 ∷ 0 ∷
+    0 ∷ 2 ∷
+    3 ∷ 0 ∷ 1 ∷ 0 ∷ 2 ∷ 1 ∷ 2 ∷
+    0 ∷
+    3 ∷ 2 ∷ 3 ∷ 2 ∷ 4 ∷ 3 ∷ 4 ∷
+    0 ∷ []) ∷
+    -- Reads-from, l is a load: Message with a store to y in its stead
+    alike (accepted 55 (1 ∷ 2 ∷ 0 ∷ 0 ∷ []))
+    (1 ∷ 2 ∷ 2 ∷ 0 ∷ 0 ∷
+    5 ∷ 1 ∷ 0 ∷ 0 ∷ 1 ∷ 2 ∷ 0 ∷ 1 ∷ 0 ∷ 1 ∷ 1 ∷ 1 ∷ 1 ∷ 1 ∷ 2 ∷ 0 ∷ 1 ∷ 0 ∷ 1 ∷
+    0 ∷ 2 ∷ 3 ∷
+    3 ∷ 0 ∷ 1 ∷ 0 ∷ 2 ∷ 1 ∷ 2 ∷
+    6 ∷ 0 ∷ 2 ∷ 0 ∷ 3 ∷ 0 ∷ 4 ∷ 2 ∷ 3 ∷ 2 ∷ 4 ∷ 3 ∷ 4 ∷
+    7 ∷ 0x4D ∷ 0x65 ∷ 0x73 ∷ 0x73 ∷ 0x61 ∷ 0x67 ∷ 0x65 ∷ []) ∷
+    -- Reads-from, one address: Message with a load of z
+    alike (accepted 48 (1 ∷ 1 ∷ 0 ∷ 0 ∷ []))
+    (1 ∷ 2 ∷ 3 ∷ 0 ∷ 0 ∷ 0 ∷
+    5 ∷ 1 ∷ 0 ∷ 0 ∷ 1 ∷ 2 ∷ 0 ∷ 1 ∷ 0 ∷ 1 ∷ 1 ∷ 0 ∷ 1 ∷ 2 ∷ 0 ∷ 0 ∷ 1 ∷ 0 ∷ 1 ∷
+    0 ∷ 2 ∷
+    3 ∷ 0 ∷ 1 ∷ 0 ∷ 2 ∷ 1 ∷ 2 ∷
+    6 ∷ 0 ∷ 2 ∷ 0 ∷ 3 ∷ 0 ∷ 4 ∷ 2 ∷ 3 ∷ 2 ∷ 4 ∷ 3 ∷ 4 ∷
+    0 ∷ []) ∷
+    -- Reads-from, s precedes l: Message with loads of the initial values, before both stores
+    alike (accepted 54 (1 ∷ 1 ∷ 0 ∷ 0 ∷ []))
+    (1 ∷ 2 ∷ 2 ∷ 0 ∷ 0 ∷
+    5 ∷ 1 ∷ 0 ∷ 0 ∷ 1 ∷ 2 ∷ 0 ∷ 1 ∷ 0 ∷ 1 ∷ 1 ∷ 0 ∷ 1 ∷ 1 ∷ 0 ∷ 0 ∷ 1 ∷ 0 ∷ 0 ∷
+    0 ∷ 2 ∷
+    3 ∷ 0 ∷ 1 ∷ 0 ∷ 2 ∷ 1 ∷ 2 ∷
+    6 ∷ 0 ∷ 2 ∷ 3 ∷ 0 ∷ 3 ∷ 2 ∷ 3 ∷ 4 ∷ 4 ∷ 0 ∷ 4 ∷ 2 ∷
+    7 ∷ 0x4D ∷ 0x65 ∷ 0x73 ∷ 0x73 ∷ 0x61 ∷ 0x67 ∷ 0x65 ∷ []) ∷
+    -- Reads-from, a later store between s and l
+    alike (accepted 60 (1 ∷ 1 ∷ 0 ∷ 0 ∷ []))
+    (1 ∷ 2 ∷ 2 ∷ 0 ∷ 0 ∷
+    6 ∷ 1 ∷ 0 ∷ 0 ∷ 1 ∷ 2 ∷ 0 ∷ 1 ∷ 0 ∷ 1 ∷ 1 ∷ 1 ∷ 1 ∷ 1 ∷ 1 ∷ 0 ∷ 1 ∷ 1 ∷ 1 ∷ 0 ∷ 1 ∷ 0 ∷ 1 ∷
+    0 ∷ 2 ∷ 3 ∷
+    3 ∷ 0 ∷ 1 ∷ 0 ∷ 2 ∷ 1 ∷ 2 ∷
+    10 ∷ 0 ∷ 2 ∷ 0 ∷ 3 ∷ 0 ∷ 4 ∷ 0 ∷ 5 ∷ 2 ∷ 3 ∷ 2 ∷ 4 ∷ 2 ∷ 5 ∷ 3 ∷ 4 ∷ 3 ∷ 5 ∷ 4 ∷ 5 ∷
+    0 ∷ []) ∷
+    -- Reads-from, two stores that precede l in no order: it reads from neither, whatever the write order
+    alike (accepted 56 (1 ∷ 1 ∷ 0 ∷ 0 ∷ []))
+    (1 ∷ 2 ∷ 2 ∷ 0 ∷ 0 ∷
+    6 ∷ 1 ∷ 0 ∷ 0 ∷ 1 ∷ 2 ∷ 0 ∷ 1 ∷ 0 ∷ 1 ∷ 1 ∷ 1 ∷ 1 ∷ 1 ∷ 1 ∷ 0 ∷ 1 ∷ 1 ∷ 1 ∷ 0 ∷ 1 ∷ 0 ∷ 1 ∷
+    0 ∷ 3 ∷ 2 ∷
+    3 ∷ 0 ∷ 1 ∷ 0 ∷ 2 ∷ 1 ∷ 2 ∷
+    8 ∷ 0 ∷ 2 ∷ 0 ∷ 4 ∷ 0 ∷ 5 ∷ 2 ∷ 4 ∷ 2 ∷ 5 ∷ 3 ∷ 4 ∷ 3 ∷ 5 ∷ 4 ∷ 5 ∷
+    0 ∷ []) ∷
+    -- Reads-from, a store to another address between s and l: it reads from s all the same
+    alike (broken 18 64)
+    (1 ∷ 3 ∷ 3 ∷ 0 ∷ 0 ∷ 0 ∷
+    6 ∷ 1 ∷ 0 ∷ 0 ∷ 1 ∷ 2 ∷ 0 ∷ 1 ∷ 0 ∷ 1 ∷ 1 ∷ 0 ∷ 1 ∷ 1 ∷ 1 ∷ 0 ∷ 1 ∷ 0 ∷ 1 ∷ 1 ∷ 2 ∷ 2 ∷ 1 ∷
+    0 ∷ 2 ∷ 5 ∷
+    3 ∷ 0 ∷ 1 ∷ 0 ∷ 2 ∷ 1 ∷ 2 ∷
+    10 ∷ 0 ∷ 2 ∷ 0 ∷ 3 ∷ 0 ∷ 4 ∷ 0 ∷ 5 ∷ 2 ∷ 3 ∷ 2 ∷ 4 ∷ 2 ∷ 5 ∷ 3 ∷ 4 ∷ 5 ∷ 3 ∷ 5 ∷ 4 ∷
+    1 ∷ 0 ∷ 2 ∷
+    0 ∷ []) ∷
+    -- Reads-from, another store to y that precedes s in the order of l's thread
+    alike (broken 18 61)
+    (1 ∷ 3 ∷ 2 ∷ 0 ∷ 0 ∷
+    6 ∷ 1 ∷ 0 ∷ 0 ∷ 1 ∷ 2 ∷ 0 ∷ 1 ∷ 0 ∷ 1 ∷ 1 ∷ 0 ∷ 1 ∷ 1 ∷ 1 ∷ 0 ∷ 1 ∷ 0 ∷ 1 ∷ 1 ∷ 2 ∷ 1 ∷ 2 ∷
+    0 ∷ 5 ∷ 2 ∷
+    3 ∷ 0 ∷ 1 ∷ 0 ∷ 2 ∷ 1 ∷ 2 ∷
+    9 ∷ 0 ∷ 2 ∷ 0 ∷ 3 ∷ 0 ∷ 4 ∷ 2 ∷ 3 ∷ 2 ∷ 4 ∷ 3 ∷ 4 ∷ 5 ∷ 2 ∷ 5 ∷ 3 ∷ 5 ∷ 4 ∷
+    1 ∷ 0 ∷ 2 ∷
+    0 ∷ []) ∷
+    -- Reads-from, a store to y that doesn't precede l: it reads from s all the same
+    alike (broken 18 55)
+    (1 ∷ 3 ∷ 2 ∷ 0 ∷ 0 ∷
+    6 ∷ 1 ∷ 0 ∷ 0 ∷ 1 ∷ 2 ∷ 0 ∷ 1 ∷ 0 ∷ 1 ∷ 1 ∷ 0 ∷ 1 ∷ 1 ∷ 1 ∷ 0 ∷ 1 ∷ 0 ∷ 1 ∷ 1 ∷ 2 ∷ 1 ∷ 2 ∷
+    0 ∷ 2 ∷ 5 ∷
+    3 ∷ 0 ∷ 1 ∷ 0 ∷ 2 ∷ 1 ∷ 2 ∷
+    6 ∷ 0 ∷ 2 ∷ 0 ∷ 3 ∷ 0 ∷ 4 ∷ 2 ∷ 3 ∷ 2 ∷ 4 ∷ 3 ∷ 4 ∷
+    1 ∷ 0 ∷ 2 ∷
+    0 ∷ []) ∷
+    []
+
+-- The layout, byte by byte
+unfoldable pub layoutCases : List Row
+layoutCases =
+    -- Empty input
+    alike (refusal 1 0)
+    [] ∷
+    -- No events
+    alike (done 7)
+    (1 ∷ 1 ∷ 1 ∷ 0 ∷
+    0 ∷
+    0 ∷
+    0 ∷ []) ∷
+    -- Bytes behind the record are not read
+    alike (accepted 19 (1 ∷ 0 ∷ 0 ∷ 0 ∷ []))
+    (1 ∷ 1 ∷ 1 ∷ 0 ∷
+    2 ∷ 1 ∷ 0 ∷ 0 ∷ 1 ∷ 0 ∷ 0 ∷ 0 ∷ 1 ∷
+    0 ∷
+    1 ∷ 0 ∷ 1 ∷
+    1 ∷ 97 ∷
+    9 ∷ 0x09 ∷ []) ∷
+    -- Edition 2
+    alike (refusal 3 0)
+    (2 ∷ 1 ∷ 1 ∷ 0 ∷
+    2 ∷ 1 ∷ 0 ∷ 0 ∷ 1 ∷ 0 ∷ 0 ∷ 0 ∷ 1 ∷
+    0 ∷
+    1 ∷ 0 ∷ 1 ∷
+    1 ∷ 0x61 ∷ []) ∷
+    -- Edition 0
+    alike (refusal 3 0)
+    (0 ∷ 1 ∷ 1 ∷ 0 ∷
+    2 ∷ 1 ∷ 0 ∷ 0 ∷ 1 ∷ 0 ∷ 0 ∷ 0 ∷ 1 ∷
+    0 ∷
+    1 ∷ 0 ∷ 1 ∷
+    1 ∷ 0x61 ∷ []) ∷
+    -- n = 5
+    alike (refusal 3 1)
+    (1 ∷ 5 ∷ 1 ∷ 0 ∷
+    2 ∷ 1 ∷ 0 ∷ 0 ∷ 1 ∷ 0 ∷ 0 ∷ 0 ∷ 1 ∷
+    0 ∷
+    1 ∷ 0 ∷ 1 ∷
+    1 ∷ 0x61 ∷ []) ∷
+    -- n = 0
+    alike (refusal 3 1)
+    (1 ∷ 0 ∷ 1 ∷ 0 ∷
+    2 ∷ 1 ∷ 0 ∷ 0 ∷ 1 ∷ 0 ∷ 0 ∷ 0 ∷ 1 ∷
+    0 ∷
+    1 ∷ 0 ∷ 1 ∷
+    1 ∷ 0x61 ∷ []) ∷
+    -- m = 5
+    alike (refusal 3 2)
+    (1 ∷ 1 ∷ 5 ∷ 0 ∷
+    2 ∷ 1 ∷ 0 ∷ 0 ∷ 1 ∷ 0 ∷ 0 ∷ 0 ∷ 1 ∷
+    0 ∷
+    1 ∷ 0 ∷ 1 ∷
+    1 ∷ 0x61 ∷ []) ∷
+    -- m = 0
+    alike (refusal 3 2)
+    (1 ∷ 1 ∷ 0 ∷ 0 ∷
+    2 ∷ 1 ∷ 0 ∷ 0 ∷ 1 ∷ 0 ∷ 0 ∷ 0 ∷ 1 ∷
+    0 ∷
+    1 ∷ 0 ∷ 1 ∷
+    1 ∷ 0x61 ∷ []) ∷
+    -- Initial value 80 00: the last of several groups is zero
+    alike (refusal 2 3)
+    (1 ∷ 1 ∷ 1 ∷ 0x80 ∷ 0 ∷
+    2 ∷ 1 ∷ 0 ∷ 0 ∷ 1 ∷ 0 ∷ 0 ∷ 0 ∷ 1 ∷
+    0 ∷
+    1 ∷ 0 ∷ 1 ∷
+    1 ∷ 0x61 ∷ []) ∷
+    -- 80 80 80 at the end: the third group says that more follows
+    alike (refusal 2 3)
+    (1 ∷ 0x01 ∷ 0x01 ∷ 0x80 ∷ 0x80 ∷ 0x80 ∷ []) ∷
+    -- 80 80 at the end: the bytes end inside a number
+    alike (refusal 1 3)
+    (1 ∷ 0x01 ∷ 0x01 ∷ 0x80 ∷ 0x80 ∷ []) ∷
+    -- 80 80 04 is 65,536
+    alike (refusal 3 3)
+    (1 ∷ 1 ∷ 1 ∷ 0x80 ∷ 0x80 ∷ 4 ∷
+    2 ∷ 1 ∷ 0 ∷ 0 ∷ 1 ∷ 0 ∷ 0 ∷ 0 ∷ 1 ∷
+    0 ∷
+    1 ∷ 0 ∷ 1 ∷
+    1 ∷ 0x61 ∷ []) ∷
+    -- FF FF 03 is 65,535
+    alike (accepted 21 (1 ∷ 0 ∷ 0 ∷ 0 ∷ []))
+    (1 ∷ 1 ∷ 1 ∷ 0xFF ∷ 0xFF ∷ 3 ∷
+    2 ∷ 1 ∷ 0 ∷ 0 ∷ 1 ∷ 0 ∷ 0 ∷ 0 ∷ 1 ∷
+    0 ∷
+    1 ∷ 0 ∷ 1 ∷
+    1 ∷ 0x61 ∷ []) ∷
+    -- 24 events
+    alike (done 229)
+    (1 ∷ 4 ∷ 4 ∷ 0 ∷ 0 ∷ 0 ∷ 0 ∷
+    24 ∷ 0 ∷ 0 ∷ 0 ∷ 0 ∷ 0 ∷ 0 ∷ 0 ∷ 0 ∷ 0 ∷ 0 ∷ 0 ∷ 0 ∷ 0 ∷ 0 ∷ 0 ∷ 0 ∷ 0 ∷ 0 ∷ 0 ∷ 0 ∷ 0 ∷ 0 ∷ 0 ∷ 0 ∷ 0 ∷ 1 ∷ 1 ∷ 0 ∷
+    0 ∷ 1 ∷ 1 ∷ 0 ∷ 0 ∷ 1 ∷ 1 ∷ 0 ∷ 0 ∷ 1 ∷ 1 ∷ 0 ∷ 0 ∷ 1 ∷ 1 ∷ 0 ∷ 0 ∷ 1 ∷ 1 ∷ 0 ∷ 0 ∷ 2 ∷ 2 ∷ 0 ∷ 0 ∷ 2 ∷ 2 ∷ 0 ∷ 0 ∷
+    2 ∷ 2 ∷ 0 ∷ 0 ∷ 2 ∷ 2 ∷ 0 ∷ 0 ∷ 2 ∷ 2 ∷ 0 ∷ 0 ∷ 2 ∷ 2 ∷ 0 ∷ 0 ∷ 3 ∷ 3 ∷ 0 ∷ 0 ∷ 3 ∷ 3 ∷ 0 ∷ 0 ∷ 3 ∷ 3 ∷ 0 ∷ 0 ∷ 3 ∷
+    3 ∷ 0 ∷ 0 ∷ 3 ∷ 3 ∷ 0 ∷ 0 ∷ 3 ∷ 3 ∷ 0 ∷
+    15 ∷ 0 ∷ 1 ∷ 0 ∷ 2 ∷ 0 ∷ 3 ∷ 0 ∷ 4 ∷ 0 ∷ 5 ∷ 1 ∷ 2 ∷ 1 ∷ 3 ∷ 1 ∷ 4 ∷ 1 ∷ 5 ∷ 2 ∷ 3 ∷ 2 ∷ 4 ∷ 2 ∷ 5 ∷ 3 ∷ 4 ∷ 3 ∷ 5 ∷
+    4 ∷ 5 ∷
+    15 ∷ 6 ∷ 7 ∷ 6 ∷ 8 ∷ 6 ∷ 9 ∷ 6 ∷ 10 ∷ 6 ∷ 11 ∷ 7 ∷ 8 ∷ 7 ∷ 9 ∷ 7 ∷ 10 ∷ 7 ∷ 11 ∷ 8 ∷ 9 ∷ 8 ∷ 10 ∷ 8 ∷ 11 ∷ 9 ∷ 10 ∷
+    9 ∷ 11 ∷ 10 ∷ 11 ∷
+    15 ∷ 12 ∷ 13 ∷ 12 ∷ 14 ∷ 12 ∷ 15 ∷ 12 ∷ 16 ∷ 12 ∷ 17 ∷ 13 ∷ 14 ∷ 13 ∷ 15 ∷ 13 ∷ 16 ∷ 13 ∷ 17 ∷ 14 ∷ 15 ∷ 14 ∷ 16 ∷
+    14 ∷ 17 ∷ 15 ∷ 16 ∷ 15 ∷ 17 ∷ 16 ∷ 17 ∷
+    15 ∷ 18 ∷ 19 ∷ 18 ∷ 20 ∷ 18 ∷ 21 ∷ 18 ∷ 22 ∷ 18 ∷ 23 ∷ 19 ∷ 20 ∷ 19 ∷ 21 ∷ 19 ∷ 22 ∷ 19 ∷ 23 ∷ 20 ∷ 21 ∷ 20 ∷ 22 ∷
+    20 ∷ 23 ∷ 21 ∷ 22 ∷ 21 ∷ 23 ∷ 22 ∷ 23 ∷
+    0 ∷ []) ∷
+    -- 25 events
+    alike (refusal 3 4)
+    (1 ∷ 1 ∷ 1 ∷ 0 ∷
+    25 ∷ []) ∷
+    -- Kind 3
+    alike (refusal 3 5)
+    (1 ∷ 1 ∷ 1 ∷ 0 ∷
+    2 ∷ 3 ∷ 0 ∷ 0 ∷ 1 ∷ 0 ∷ 0 ∷ 0 ∷ 1 ∷
+    0 ∷
+    1 ∷ 0 ∷ 1 ∷
+    1 ∷ 0x61 ∷ []) ∷
+    -- Thread n
+    alike (refusal 3 6)
+    (1 ∷ 1 ∷ 1 ∷ 0 ∷
+    2 ∷ 1 ∷ 1 ∷ 0 ∷ 1 ∷ 0 ∷ 0 ∷ 0 ∷ 1 ∷
+    0 ∷
+    1 ∷ 0 ∷ 1 ∷
+    1 ∷ 0x61 ∷ []) ∷
+    -- Address m
+    alike (refusal 3 7)
+    (1 ∷ 1 ∷ 1 ∷ 0 ∷
+    2 ∷ 1 ∷ 0 ∷ 1 ∷ 1 ∷ 0 ∷ 0 ∷ 0 ∷ 1 ∷
+    0 ∷
+    1 ∷ 0 ∷ 1 ∷
+    1 ∷ 0x61 ∷ []) ∷
+    -- An event's value too large
+    alike (refusal 3 8)
+    (1 ∷ 1 ∷ 1 ∷ 0 ∷
+    2 ∷ 1 ∷ 0 ∷ 0 ∷ 0x80 ∷ 0x80 ∷ 4 ∷ 0 ∷ 0 ∷ 0 ∷ 1 ∷
+    0 ∷
+    1 ∷ 0 ∷ 1 ∷
+    1 ∷ 0x61 ∷ []) ∷
+    -- A write order's entry k
+    alike (refusal 3 13)
+    (1 ∷ 1 ∷ 1 ∷ 0 ∷
+    2 ∷ 1 ∷ 0 ∷ 0 ∷ 1 ∷ 0 ∷ 0 ∷ 0 ∷ 1 ∷
+    2 ∷
+    1 ∷ 0 ∷ 1 ∷
+    1 ∷ 0x61 ∷ []) ∷
+    -- A write order's entry that is no store
+    alike (refusal 4 13)
+    (1 ∷ 1 ∷ 1 ∷ 0 ∷
+    2 ∷ 1 ∷ 0 ∷ 0 ∷ 1 ∷ 0 ∷ 0 ∷ 0 ∷ 1 ∷
+    1 ∷
+    1 ∷ 0 ∷ 1 ∷
+    1 ∷ 0x61 ∷ []) ∷
+    -- A store listed twice
+    alike (refusal 4 14)
+    (1 ∷ 1 ∷ 1 ∷ 0 ∷
+    2 ∷ 1 ∷ 0 ∷ 0 ∷ 1 ∷ 1 ∷ 0 ∷ 0 ∷ 2 ∷
+    0 ∷ 0 ∷
+    1 ∷ 0 ∷ 1 ∷
+    0 ∷ []) ∷
+    -- A store to another address
+    alike (refusal 4 14)
+    (1 ∷ 1 ∷ 2 ∷ 0 ∷ 0 ∷
+    2 ∷ 1 ∷ 0 ∷ 0 ∷ 1 ∷ 1 ∷ 0 ∷ 1 ∷ 1 ∷
+    1 ∷ 0 ∷
+    1 ∷ 0 ∷ 1 ∷
+    0 ∷ []) ∷
+    -- More pairs than k·k
+    alike (refusal 3 14)
+    (1 ∷ 1 ∷ 1 ∷ 0 ∷
+    2 ∷ 1 ∷ 0 ∷ 0 ∷ 1 ∷ 0 ∷ 0 ∷ 0 ∷ 1 ∷
+    0 ∷
+    5 ∷ 0 ∷ 1 ∷
+    1 ∷ 0x61 ∷ []) ∷
+    -- A pair's first number is k
+    alike (refusal 3 15)
+    (1 ∷ 1 ∷ 1 ∷ 0 ∷
+    2 ∷ 1 ∷ 0 ∷ 0 ∷ 1 ∷ 0 ∷ 0 ∷ 0 ∷ 1 ∷
+    0 ∷
+    1 ∷ 2 ∷ 1 ∷
+    1 ∷ 0x61 ∷ []) ∷
+    -- A pair's second number is k
+    alike (refusal 3 16)
+    (1 ∷ 1 ∷ 1 ∷ 0 ∷
+    2 ∷ 1 ∷ 0 ∷ 0 ∷ 1 ∷ 0 ∷ 0 ∷ 0 ∷ 1 ∷
+    0 ∷
+    1 ∷ 0 ∷ 2 ∷
+    1 ∷ 0x61 ∷ []) ∷
+    -- A pair equal to the one before
+    alike (refusal 4 17)
+    (1 ∷ 1 ∷ 1 ∷ 0 ∷
+    2 ∷ 1 ∷ 0 ∷ 0 ∷ 1 ∷ 0 ∷ 0 ∷ 0 ∷ 1 ∷
+    0 ∷
+    2 ∷ 0 ∷ 1 ∷ 0 ∷ 1 ∷
+    1 ∷ 0x61 ∷ []) ∷
+    -- A pair that falls by its second number
+    alike (refusal 4 17)
+    (1 ∷ 1 ∷ 1 ∷ 0 ∷
+    2 ∷ 1 ∷ 0 ∷ 0 ∷ 1 ∷ 0 ∷ 0 ∷ 0 ∷ 1 ∷
+    0 ∷
+    2 ∷ 0 ∷ 1 ∷ 0 ∷ 0 ∷
+    1 ∷ 0x61 ∷ []) ∷
+    -- A pair that falls by its first number
+    alike (refusal 4 17)
+    (1 ∷ 1 ∷ 1 ∷ 0 ∷
+    2 ∷ 1 ∷ 0 ∷ 0 ∷ 1 ∷ 0 ∷ 0 ∷ 0 ∷ 1 ∷
+    0 ∷
+    2 ∷ 1 ∷ 0 ∷ 0 ∷ 1 ∷
+    1 ∷ 0x61 ∷ []) ∷
+    -- A pair that falls and whose second number is k: tested for 4 once both are read
+    alike (refusal 3 18)
+    (1 ∷ 1 ∷ 1 ∷ 0 ∷
+    2 ∷ 1 ∷ 0 ∷ 0 ∷ 1 ∷ 0 ∷ 0 ∷ 0 ∷ 1 ∷
+    0 ∷
+    2 ∷ 1 ∷ 0 ∷ 0 ∷ 2 ∷
+    1 ∷ 0x61 ∷ []) ∷
+    -- The bytes end inside a pair: the place is the second number's
+    alike (refusal 1 16)
+    (1 ∷ 1 ∷ 1 ∷ 0 ∷
+    2 ∷ 1 ∷ 0 ∷ 0 ∷ 1 ∷ 0 ∷ 0 ∷ 0 ∷ 1 ∷
+    0 ∷
+    1 ∷ 0x00 ∷ []) ∷
+    -- Name of 32 bytes, any bytes
+    alike (accepted 50 (1 ∷ 0 ∷ 0 ∷ 0 ∷ []))
+    (1 ∷ 1 ∷ 1 ∷ 0 ∷
+    2 ∷ 1 ∷ 0 ∷ 0 ∷ 1 ∷ 0 ∷ 0 ∷ 0 ∷ 1 ∷
+    0 ∷
+    1 ∷ 0 ∷ 1 ∷
+    32 ∷ 0xE0 ∷ 0xE1 ∷ 0xE2 ∷ 0xE3 ∷ 0xE4 ∷ 0xE5 ∷ 0xE6 ∷ 0xE7 ∷ 0xE8 ∷ 0xE9 ∷ 0xEA ∷ 0xEB ∷ 0xEC ∷ 0xED ∷ 0xEE ∷ 0xEF ∷
+    0xF0 ∷ 0xF1 ∷ 0xF2 ∷ 0xF3 ∷ 0xF4 ∷ 0xF5 ∷ 0xF6 ∷ 0xF7 ∷ 0xF8 ∷ 0xF9 ∷ 0xFA ∷ 0xFB ∷ 0xFC ∷ 0xFD ∷ 0xFE ∷ 0xFF ∷ []) ∷
+    -- Name length 33
+    alike (refusal 3 17)
+    (1 ∷ 1 ∷ 1 ∷ 0 ∷
+    2 ∷ 1 ∷ 0 ∷ 0 ∷ 1 ∷ 0 ∷ 0 ∷ 0 ∷ 1 ∷
+    0 ∷
+    1 ∷ 0 ∷ 1 ∷
+    33 ∷ 0xE0 ∷ 0xE1 ∷ 0xE2 ∷ 0xE3 ∷ 0xE4 ∷ 0xE5 ∷ 0xE6 ∷ 0xE7 ∷ 0xE8 ∷ 0xE9 ∷ 0xEA ∷ 0xEB ∷ 0xEC ∷ 0xED ∷ 0xEE ∷ 0xEF ∷
+    0xF0 ∷ 0xF1 ∷ 0xF2 ∷ 0xF3 ∷ 0xF4 ∷ 0xF5 ∷ 0xF6 ∷ 0xF7 ∷ 0xF8 ∷ 0xF9 ∷ 0xFA ∷ 0xFB ∷ 0xFC ∷ 0xFD ∷ 0xFE ∷ 0xFF ∷
+    0x00 ∷ []) ∷
+    -- A name shorter than its length: the place is its first byte
+    alike (refusal 1 18)
+    (1 ∷ 1 ∷ 1 ∷ 0 ∷
+    2 ∷ 1 ∷ 0 ∷ 0 ∷ 1 ∷ 0 ∷ 0 ∷ 0 ∷ 1 ∷
+    0 ∷
+    1 ∷ 0 ∷ 1 ∷
+    2 ∷ 0x61 ∷ []) ∷
+    []
+
+-- The order of refusals: the model before the bytes
+unfoldable pub modelCases : List Row
+modelCases =
+    -- Model 2
+    judgedUnder 2 (refusal 7 0)
+    (1 ∷ 1 ∷ 1 ∷ 0 ∷
+    2 ∷ 1 ∷ 0 ∷ 0 ∷ 1 ∷ 0 ∷ 0 ∷ 0 ∷ 1 ∷
+    0 ∷
+    1 ∷ 0 ∷ 1 ∷
+    1 ∷ 0x61 ∷ []) ∷
+    -- Model 2 and no bytes
+    judgedUnder 2 (refusal 7 0)
+    [] ∷
+    []
+
+-- The name
+unfoldable pub nameCases : List Row
+nameCases =
+    -- Beside a judging
+    named 0 (0x61 ∷ [])
+    (1 ∷ 1 ∷ 1 ∷ 0 ∷
+    2 ∷ 1 ∷ 0 ∷ 0 ∷ 1 ∷ 0 ∷ 0 ∷ 0 ∷ 1 ∷
+    0 ∷
+    1 ∷ 0 ∷ 1 ∷
+    1 ∷ 0x61 ∷ []) ∷
+    -- Bytes behind the record are not of it
+    named 0 (0x61 ∷ [])
+    (1 ∷ 1 ∷ 1 ∷ 0 ∷
+    2 ∷ 1 ∷ 0 ∷ 0 ∷ 1 ∷ 0 ∷ 0 ∷ 0 ∷ 1 ∷
+    0 ∷
+    1 ∷ 0 ∷ 1 ∷
+    1 ∷ 97 ∷
+    9 ∷ 0x09 ∷ []) ∷
+    -- A broken rule hands it back
+    named 1 (0x61 ∷ [])
+    (1 ∷ 1 ∷ 1 ∷ 0 ∷
+    2 ∷ 1 ∷ 0 ∷ 0 ∷ 1 ∷ 0 ∷ 0 ∷ 0 ∷ 2 ∷
+    0 ∷
+    1 ∷ 0 ∷ 1 ∷
+    1 ∷ 0x61 ∷ []) ∷
+    -- None under 4
+    named 0 []
+    (1 ∷ 1 ∷ 1 ∷ 0 ∷
+    2 ∷ 1 ∷ 0 ∷ 0 ∷ 1 ∷ 0 ∷ 0 ∷ 0 ∷ 1 ∷
+    1 ∷
+    1 ∷ 0 ∷ 1 ∷
+    1 ∷ 0x61 ∷ []) ∷
+    -- None under 7
+    named 2 []
+    (1 ∷ 1 ∷ 1 ∷ 0 ∷
+    2 ∷ 1 ∷ 0 ∷ 0 ∷ 1 ∷ 0 ∷ 0 ∷ 0 ∷ 1 ∷
+    0 ∷
+    1 ∷ 0 ∷ 1 ∷
+    1 ∷ 0x61 ∷ []) ∷
+    -- Beside a renumbering
+    namedRenumbered 0 0 0 (0x61 ∷ [])
+    (1 ∷ 1 ∷ 1 ∷ 0 ∷
+    2 ∷ 1 ∷ 0 ∷ 0 ∷ 1 ∷ 0 ∷ 0 ∷ 0 ∷ 1 ∷
+    0 ∷
+    1 ∷ 0 ∷ 1 ∷
+    1 ∷ 0x61 ∷ [])
+    (lent 19) ∷
+    -- None under 6
+    namedRenumbered 0 0 0 []
+    (1 ∷ 1 ∷ 1 ∷ 0 ∷
+    2 ∷ 1 ∷ 0 ∷ 0 ∷ 1 ∷ 0 ∷ 0 ∷ 0 ∷ 1 ∷
+    0 ∷
+    1 ∷ 0 ∷ 1 ∷
+    1 ∷ 0x61 ∷ [])
+    (lent 18) ∷
+    []
+
+-- Renumbering by q and r from a place of a lent buffer: the record, the buffer before, the buffer after
+unfoldable pub renumberCases : List Row
+renumberCases =
+    -- The small record, addresses by 6, which does not fit one label
+    renumbered 0 6 2 (refusal 5 0)
+    (1 ∷ 1 ∷ 1 ∷ 0 ∷
+    2 ∷ 1 ∷ 0 ∷ 0 ∷ 1 ∷ 0 ∷ 0 ∷ 0 ∷ 1 ∷
+    0 ∷
+    1 ∷ 0 ∷ 1 ∷
+    1 ∷ 0x61 ∷ [])
+    (lent 22)
+    (lent 22) ∷
+    -- By 1: the same bytes; bytes before and after stay
+    renumbered 0 1 2 (done 19)
+    (1 ∷ 1 ∷ 1 ∷ 0 ∷
+    2 ∷ 1 ∷ 0 ∷ 0 ∷ 1 ∷ 0 ∷ 0 ∷ 0 ∷ 1 ∷
+    0 ∷
+    1 ∷ 0 ∷ 1 ∷
+    1 ∷ 0x61 ∷ [])
+    (lent 22)
+    (0 ∷ 1 ∷
+    1 ∷ 1 ∷ 1 ∷ 0 ∷
+    2 ∷ 1 ∷ 0 ∷ 0 ∷ 1 ∷ 0 ∷ 0 ∷ 0 ∷ 1 ∷
+    0 ∷
+    1 ∷ 0 ∷ 1 ∷
+    1 ∷ 0x61 ∷
+    21 ∷ []) ∷
+    -- Threads by 6
+    renumbered 6 0 2 (refusal 5 0)
+    (1 ∷ 1 ∷ 1 ∷ 0 ∷
+    2 ∷ 1 ∷ 0 ∷ 0 ∷ 1 ∷ 0 ∷ 0 ∷ 0 ∷ 1 ∷
+    0 ∷
+    1 ∷ 0 ∷ 1 ∷
+    1 ∷ 0x61 ∷ [])
+    (lent 22)
+    (lent 22) ∷
+    -- 24 is no permutation number
+    renumbered 24 0 2 (refusal 5 0)
+    (1 ∷ 1 ∷ 1 ∷ 0 ∷
+    2 ∷ 1 ∷ 0 ∷ 0 ∷ 1 ∷ 0 ∷ 0 ∷ 0 ∷ 1 ∷
+    0 ∷
+    1 ∷ 0 ∷ 1 ∷
+    1 ∷ 0x61 ∷ [])
+    (lent 22)
+    (lent 22) ∷
+    -- The last place with room
+    renumbered 0 0 3 (done 19)
+    (1 ∷ 1 ∷ 1 ∷ 0 ∷
+    2 ∷ 1 ∷ 0 ∷ 0 ∷ 1 ∷ 0 ∷ 0 ∷ 0 ∷ 1 ∷
+    0 ∷
+    1 ∷ 0 ∷ 1 ∷
+    1 ∷ 0x61 ∷ [])
+    (lent 22)
+    (0 ∷ 1 ∷ 2 ∷
+    1 ∷ 1 ∷ 1 ∷ 0 ∷
+    2 ∷ 1 ∷ 0 ∷ 0 ∷ 1 ∷ 0 ∷ 0 ∷ 0 ∷ 1 ∷
+    0 ∷
+    1 ∷ 0 ∷ 1 ∷
+    1 ∷ 0x61 ∷ []) ∷
+    -- One byte too few
+    renumbered 0 0 4 (refusal 6 0)
+    (1 ∷ 1 ∷ 1 ∷ 0 ∷
+    2 ∷ 1 ∷ 0 ∷ 0 ∷ 1 ∷ 0 ∷ 0 ∷ 0 ∷ 1 ∷
+    0 ∷
+    1 ∷ 0 ∷ 1 ∷
+    1 ∷ 0x61 ∷ [])
+    (lent 22)
+    (lent 22) ∷
+    -- A place past the end
+    renumbered 0 0 23 (refusal 6 0)
+    (1 ∷ 1 ∷ 1 ∷ 0 ∷
+    2 ∷ 1 ∷ 0 ∷ 0 ∷ 1 ∷ 0 ∷ 0 ∷ 0 ∷ 1 ∷
+    0 ∷
+    1 ∷ 0 ∷ 1 ∷
+    1 ∷ 0x61 ∷ [])
+    (lent 22)
+    (lent 22) ∷
+    -- The record before the permutations: kind 3, and 24 twice
+    renumbered 24 24 2 (refusal 3 5)
+    (1 ∷ 1 ∷ 1 ∷ 0 ∷
+    2 ∷ 3 ∷ 0 ∷ 0 ∷ 1 ∷ 0 ∷ 0 ∷ 0 ∷ 1 ∷
+    0 ∷
+    1 ∷ 0 ∷ 1 ∷
+    1 ∷ 0x61 ∷ [])
+    (lent 22)
+    (lent 22) ∷
+    -- The permutations before the room
+    renumbered 24 0 0 (refusal 5 0)
+    (1 ∷ 1 ∷ 1 ∷ 0 ∷
+    2 ∷ 1 ∷ 0 ∷ 0 ∷ 1 ∷ 0 ∷ 0 ∷ 0 ∷ 1 ∷
+    0 ∷
+    1 ∷ 0 ∷ 1 ∷
+    1 ∷ 0x61 ∷ [])
+    (lent 0)
+    (lent 0) ∷
+    -- Threads by 8 (1203), addresses by 12 (2013): fields, initial values, write orders and thread orders move; event numbers and listing stay
+    renumbered 8 12 0 (done 39)
+    (1 ∷ 3 ∷ 3 ∷ 5 ∷ 6 ∷ 7 ∷
+    5 ∷ 1 ∷ 0 ∷ 0 ∷ 1 ∷ 2 ∷ 1 ∷ 1 ∷ 1 ∷ 1 ∷ 2 ∷ 0 ∷ 2 ∷ 2 ∷ 7 ∷ 1 ∷ 2 ∷ 0 ∷ 0xAC ∷ 2 ∷
+    0 ∷ 4 ∷ 2 ∷
+    1 ∷ 0 ∷ 4 ∷
+    1 ∷ 1 ∷ 2 ∷
+    1 ∷ 3 ∷ 4 ∷
+    0 ∷ [])
+    (lent 40)
+    (1 ∷ 3 ∷ 3 ∷ 6 ∷ 7 ∷ 5 ∷
+    5 ∷ 1 ∷ 1 ∷ 2 ∷ 1 ∷ 2 ∷ 2 ∷ 1 ∷ 2 ∷ 0 ∷ 2 ∷ 0 ∷ 0 ∷ 1 ∷ 7 ∷ 1 ∷ 0 ∷ 2 ∷ 0xAC ∷ 2 ∷
+    2 ∷ 0 ∷ 4 ∷
+    1 ∷ 3 ∷ 4 ∷
+    1 ∷ 0 ∷ 4 ∷
+    1 ∷ 1 ∷ 2 ∷
+    0 ∷
+    39 ∷ []) ∷
+    -- Two threads and one address: 6 fits the threads
+    renumbered 6 0 0 (done 8)
+    (1 ∷ 2 ∷ 1 ∷ 0 ∷
+    0 ∷
+    0 ∷
+    0 ∷
+    0 ∷ [])
+    (lent 8)
+    (1 ∷ 2 ∷ 1 ∷ 0 ∷
+    0 ∷
+    0 ∷
+    0 ∷
+    0 ∷ []) ∷
+    -- And not the addresses
+    renumbered 0 6 0 (refusal 5 0)
+    (1 ∷ 2 ∷ 1 ∷ 0 ∷
+    0 ∷
+    0 ∷
+    0 ∷
+    0 ∷ [])
+    (lent 8)
+    (lent 8) ∷
+    []
+
+-- Cases handed without bytes: 3 or 4 with place 0
+unfoldable pub handedCases : List Row
+handedCases =
+    -- One store
+    judgedCase 0 (one 1 1 1 0 1 1 0 0 1 (0 ∷ []) (0x61 ∷ [])) (accepted 13 (1 ∷ 0 ∷ 0 ∷ 0 ∷ [])) ∷
+    -- Edition 0
+    judgedCase 0 (one 0 1 1 0 1 1 0 0 1 (0 ∷ []) (0x61 ∷ [])) (refusal 3 0) ∷
+    -- Edition 2
+    judgedCase 0 (one 2 1 1 0 1 1 0 0 1 (0 ∷ []) (0x61 ∷ [])) (refusal 3 0) ∷
+    -- n = 0, no events
+    judgedCase 0 (one 1 0 1 0 0 1 0 0 1 [] (0x61 ∷ [])) (refusal 3 0) ∷
+    -- n = 5
+    judgedCase 0 (one 1 5 1 0 1 1 0 0 1 (0 ∷ []) (0x61 ∷ [])) (refusal 3 0) ∷
+    -- m = 0, no events
+    judgedCase 0 (one 1 1 0 0 0 1 0 0 1 [] (0x61 ∷ [])) (refusal 3 0) ∷
+    -- m = 5
+    judgedCase 0 (one 1 1 5 0 1 1 0 0 1 (0 ∷ []) (0x61 ∷ [])) (refusal 3 0) ∷
+    -- An initial value too large
+    judgedCase 0 (one 1 1 1 65536 1 1 0 0 1 (0 ∷ []) (0x61 ∷ [])) (refusal 3 0) ∷
+    -- 25 events
+    judgedCase 0 (one 1 1 1 0 25 1 0 0 1 (0 ∷ []) (0x61 ∷ [])) (refusal 3 0) ∷
+    -- Kind 3
+    judgedCase 0 (one 1 1 1 0 1 3 0 0 1 (0 ∷ []) (0x61 ∷ [])) (refusal 3 0) ∷
+    -- Thread n
+    judgedCase 0 (one 1 1 1 0 1 1 1 0 1 (0 ∷ []) (0x61 ∷ [])) (refusal 3 0) ∷
+    -- Address m
+    judgedCase 0 (one 1 1 1 0 1 1 0 1 1 (0 ∷ []) (0x61 ∷ [])) (refusal 3 0) ∷
+    -- A value too large, before a write order that lists a load
+    judgedCase 0 (one 1 1 1 0 1 0 0 0 65536 (0 ∷ []) (0x61 ∷ [])) (refusal 3 0) ∷
+    -- A write order's entry k
+    judgedCase 0 (one 1 1 1 0 1 1 0 0 1 (1 ∷ []) (0x61 ∷ [])) (refusal 3 0) ∷
+    -- A write order's entry that is no store, before a name of 33 bytes
+    judgedCase 0 (one 1 1 1 0 1 0 0 0 1 (0 ∷ []) (0x61 ∷ 0x61 ∷ 0x61 ∷ 0x61 ∷ 0x61 ∷ 0x61 ∷ 0x61 ∷ 0x61 ∷ 0x61 ∷ 0x61 ∷ 0x61 ∷ 0x61 ∷ 0x61 ∷ 0x61 ∷ 0x61 ∷ 0x61 ∷ 0x61 ∷ 0x61 ∷ 0x61 ∷ 0x61 ∷ 0x61 ∷ 0x61 ∷ 0x61 ∷ 0x61 ∷ 0x61 ∷ 0x61 ∷ 0x61 ∷ 0x61 ∷ 0x61 ∷ 0x61 ∷ 0x61 ∷ 0x61 ∷ 0x61 ∷ [])) (refusal 4 0) ∷
+    -- A store listed twice, before an entry k
+    judgedCase 0 (one 1 1 1 0 1 1 0 0 1 (0 ∷ 0 ∷ 1 ∷ []) (0x61 ∷ [])) (refusal 4 0) ∷
+    -- Name of 33 bytes
+    judgedCase 0 (one 1 1 1 0 1 1 0 0 1 (0 ∷ []) (0x61 ∷ 0x61 ∷ 0x61 ∷ 0x61 ∷ 0x61 ∷ 0x61 ∷ 0x61 ∷ 0x61 ∷ 0x61 ∷ 0x61 ∷ 0x61 ∷ 0x61 ∷ 0x61 ∷ 0x61 ∷ 0x61 ∷ 0x61 ∷ 0x61 ∷ 0x61 ∷ 0x61 ∷ 0x61 ∷ 0x61 ∷ 0x61 ∷ 0x61 ∷ 0x61 ∷ 0x61 ∷ 0x61 ∷ 0x61 ∷ 0x61 ∷ 0x61 ∷ 0x61 ∷ 0x61 ∷ 0x61 ∷ 0x61 ∷ [])) (refusal 3 0) ∷
+    -- Model 2 before a fault
+    judgedCase 2 (one 1 5 1 0 1 1 0 0 1 (0 ∷ []) (0x61 ∷ [])) (refusal 7 0) ∷
+    -- A fault before the permutations
+    renumberedCase 24 0 (one 1 5 1 0 1 1 0 0 1 (0 ∷ []) (0x61 ∷ [])) (refusal 3 0)
+    [] ∷
+    -- 24 is no permutation number
+    renumberedCase 24 0 (one 1 1 1 0 1 1 0 0 1 (0 ∷ []) (0x61 ∷ [])) (refusal 5 0)
+    [] ∷
+    -- By 1: the same record
+    renumberedCase 1 1 (one 1 1 1 0 1 1 0 0 1 (0 ∷ []) (0x61 ∷ [])) (done 13)
+    (1 ∷ 1 ∷ 1 ∷ 0 ∷
+    1 ∷ 1 ∷ 0 ∷ 0 ∷ 1 ∷
+    0 ∷
+    0 ∷
+    1 ∷ 0x61 ∷ []) ∷
+    -- Written from place 1; bytes before and after stay
+    written (one 1 1 1 0 1 1 0 0 1 (0 ∷ []) (0x61 ∷ [])) 1 (done 13)
+    (lent 15)
+    (0 ∷
+    1 ∷ 1 ∷ 1 ∷ 0 ∷
+    1 ∷ 1 ∷ 0 ∷ 0 ∷ 1 ∷
+    0 ∷
+    0 ∷
+    1 ∷ 0x61 ∷
+    14 ∷ []) ∷
+    -- A fault before the room
+    written (one 1 1 1 0 1 0 0 0 1 (0 ∷ []) (0x61 ∷ [])) 1 (refusal 4 0)
+    (lent 2)
+    (lent 2) ∷
+    -- One byte too few
+    written (one 1 1 1 0 1 1 0 0 1 (0 ∷ []) (0x61 ∷ [])) 1 (refusal 6 0)
+    (lent 13)
+    (lent 13) ∷
+    -- A place past the end
+    written (one 1 1 1 0 1 1 0 0 1 (0 ∷ []) (0x61 ∷ [])) 3 (refusal 6 0)
+    (lent 2)
+    (lent 2) ∷
+    -- A sync's address and value are not written
+    written (one 1 1 1 0 1 2 0 9 70000 [] (0x61 ∷ [])) 0 (done 10)
+    (lent 15)
+    (1 ∷ 1 ∷ 1 ∷ 0 ∷
+    1 ∷ 2 ∷ 0 ∷
+    0 ∷
+    1 ∷ 0x61 ∷
+    10 ∷ 11 ∷ 12 ∷ 13 ∷ 14 ∷ []) ∷
+    -- Any bytes in the name
+    written (one 1 1 1 0 1 1 0 0 1 (0 ∷ []) (0xFF ∷ 0x00 ∷ [])) 0 (done 14)
+    (lent 15)
+    (1 ∷ 1 ∷ 1 ∷ 0 ∷
+    1 ∷ 1 ∷ 0 ∷ 0 ∷ 1 ∷
+    0 ∷
+    0 ∷
+    2 ∷ 0xFF ∷ 0x00 ∷
+    14 ∷ []) ∷
+    []
+
+-- The table
+unfoldable pub records : List Row
+records =
+    paperCases ++ orderCases ++ valueCases ++ barrierCases ++ layoutCases
+    ++ modelCases ++ nameCases ++ renumberCases ++ handedCases

@@ -1,0 +1,11 @@
+pub mod Forward
+pub mod Filling
+pub mod Pad
+pub mod Events
+pub mod Orders
+pub mod Initials
+pub mod Tables
+pub mod Stores
+pub mod Names
+pub mod Fields
+pub mod Whole

@@ -1,0 +1,193 @@
+-- The ways through reading a pair, and the turns of reading an order.
+-- Assumes nothing.
+use Prim.Native.Nat.{ℕ, zero, suc, _+_, _-_, _*_, _^_, _≤_, _<_}
+use mathlib.Core.Path.{_≡_, refl, ap, sym, _∙_}
+use mathlib.Core.List.{List}
+use native.Mathlib.Omega.{arith}
+use native.Mathlib.Nat.{mul-le-mul}
+use lib.Bits.{bitOr}
+use lib.ListN.{length, getD, set, replicate, length-set, length-replicate, List·getD-append, replicate-append-replicate}
+use lib.Seq.{set-append-left}
+use borrow.Author.Tests.{le-leb, lt-leb}
+use mir.Syntax.{w64, w32}
+use mir.Val.{Fits}
+use Rattle.number.specs.Number.{readNumber}
+use Rattle.number.specs.Reader.{stop, next, onward, unless, upTo, below, turns, refusalOf}
+use Rattle.number.specs.declared.Refusal.{Refusal}
+use Rattle.number.specs.declared.NumberRead.{NumberRead}
+use Rattle.number.specs.declared.NumberRead.the-variants.{Number, Refused}
+use Rattle.number.proofs.Laws.{read-within}
+use Rattle.number.proofs.Turns.{turns-none, turns-stop, turns-next}
+use Rattle.model.specs.Limits.{mostEvents}
+use Rattle.model.specs.Record.{Pair, Rows, pair, risingPair, withPair, nextPair, order}
+use Rattle.case.specs.Held.{pad}
+use Rattle.reader.specs.Answers.{Stores, Padded, pairOut}
+use Rattle.reader.specs.declared.PairRead.{PairRead}
+use Rattle.reader.specs.declared.PairRead.the-variants as the
+use Rattle.reader.specs.declared.PlaceRead.the-variants as place
+use Rattle.bits.specs.Bit.{width}
+use Rattle.reader.proofs.Forward.{gone, forward-rising-pair}
+
+-- both are below k, which is within the limit
+pub record In (k a b : ℕ) : Type 0 where
+  pub first : a < k
+  pub second : b < k
+
+rank-small : (k a b : ℕ) → k ≤ mostEvents → In k a b → a * k + b + 1 ≤ mostEvents * mostEvents + mostEvents
+rank-small k a b h i =
+    let l : a ≤ mostEvents = omega (arith, i .first) in
+    let p : a * k ≤ mostEvents * mostEvents = mul-le-mul l h in
+    omega (arith, i .second)
+
+module _ (s : List ℕ) (at k least : ℕ) where
+  pub no-first : (r₁ : NumberRead) (f : Refusal) (x p : ℕ)
+      → r₁ ≡ readNumber s at (k - 1) → r₁ ≡ Refused x p → f ≡ refusalOf r₁ → pairOut (the.Refused f) ≡ risingPair k least s at
+  unfolding risingPair unless pair upTo below refusalOf
+  no-first r₁ f x p e₁ u₁ g = rw (g, ← e₁, u₁)
+
+  module _ (r₁ : NumberRead) (a p₁ : ℕ) (e₁ : r₁ ≡ readNumber s at (k - 1)) (u₁ : r₁ ≡ Number a p₁) where
+    pub no-second : (r₂ : NumberRead) (f : Refusal) (x p : ℕ)
+        → r₂ ≡ readNumber s p₁ (k - 1) → r₂ ≡ Refused x p → f ≡ refusalOf r₂ → pairOut (the.Refused f) ≡ risingPair k least s at
+    unfolding risingPair unless pair upTo below refusalOf
+    no-second r₂ f x p e₂ u₂ g = rw (g, ← e₁, u₁, ← e₂, u₂)
+
+    module _ (r₂ : NumberRead) (b p₂ : ℕ) (e₂ : r₂ ≡ readNumber s p₁ (k - 1)) (u₂ : r₂ ≡ Number b p₂) where
+      pub rising : least ≤ a * k + b → pairOut (the.Pair a b p₂) ≡ risingPair k least s at
+      unfolding risingPair unless pair upTo below
+      rising l = rw (← e₁, u₁, ← e₂, u₂, le-leb least (a * k + b) l)
+
+      pub falling : a * k + b < least → pairOut (the.Refused (record { number = 4; place = at })) ≡ risingPair k least s at
+      unfolding risingPair unless pair upTo below
+      falling l = rw (← e₁, u₁, ← e₂, u₂, lt-leb least (a * k + b) l)
+
+      both-in : 0 < k → In k a b
+      both-in z = record {
+        first = omega (arith, read-within s at (k - 1) a p₁ (sym e₁ ∙ u₁));
+        second = omega (arith, read-within s p₁ (k - 1) b p₂ (sym e₂ ∙ u₂));
+      }
+
+      pub row-fits : 0 < k → k ≤ mostEvents → Fits w64 (a * k)
+      row-fits z h = record { fits = omega (arith, rank-small k a b h (both-in z)) }
+
+      pub rank-fits : 0 < k → k ≤ mostEvents → Fits w64 (a * k + b)
+      rank-fits z h = record { fits = omega (arith, rank-small k a b h (both-in z)) }
+
+-- what is read as a pair is in range
+pub pair-in : (s : List ℕ) (at k least a b q : ℕ) (r : PairRead) → r ≡ the.Pair a b q → pairOut r ≡ risingPair k least s at → 0 < k → In k a b
+pair-in s at k least a b q r u e z =
+    let g = gone (forward-rising-pair {s = s} k least) at (record { a = a; b = b }) q (sym e ∙ ap pairOut u) in
+    record { first = omega (arith, g .holds .0 .0); second = omega (arith, g .holds .0 .1) }
+
+-- squares
+square-small : (k : ℕ) → k ≤ mostEvents → k * k ≤ mostEvents * mostEvents
+square-small k h = mul-le-mul h h
+
+pub square-fits-64 : (k : ℕ) → k ≤ mostEvents → Fits w64 (k * k)
+square-fits-64 k h = record { fits = omega (arith, square-small k h) }
+
+pub square-fits-32 : (k : ℕ) → k ≤ mostEvents → Fits w32 (k * k)
+square-fits-32 k h = record { fits = omega (arith, square-small k h) }
+
+-- of an order, left pairs are left to read, of rank least or above
+pub record Pairing (s : List ℕ) (at k : ℕ) (array₀ array : List ℕ) (place least left : ℕ) : Type 0 where
+  pub rows : List ℕ
+  pub stored : array ≡ pad mostEvents rows
+  pub size : length rows ≡ k
+  pub kept : length array ≡ length array₀
+  pub room : length array ≡ mostEvents
+  pub small : k ≤ mostEvents
+  pub few : left ≤ k * k
+  pub same : onward (λ o p. next (o .rows) p) (turns left (nextPair k) (record { least = least; rows = rows }) s place) ≡ order k s at
+
+zeros : (n k : ℕ) → k ≤ n → replicate n 0 ≡ pad n (replicate k 0)
+unfolding pad
+zeros n k h =
+    let z : k + (n - k) ≡ n = omega arith in
+    simp (length-replicate, replicate-append-replicate, z)
+
+pad-put : (n : ℕ) (xs : List ℕ) (a v : ℕ) → a < length xs → set (pad n xs) a v ≡ pad n (set xs a v)
+unfolding pad
+pad-put n xs a v h = simp (set-append-left, length-set)
+
+pad-get : (n : ℕ) (xs : List ℕ) (a : ℕ) → a < length xs → getD (pad n xs) a 0 ≡ getD xs a 0
+unfolding pad
+pad-get n xs a h = List·getD-append xs _ 0 a h
+
+module _ (s : List ℕ) (at k : ℕ) (array₀ : List ℕ) where
+  pub no-count : (r₁ : NumberRead) (f : Refusal) (x p : ℕ) (array : List ℕ)
+      → r₁ ≡ readNumber s at (k * k) → r₁ ≡ Refused x p → f ≡ refusalOf r₁ → Stores (Padded mostEvents array) (order k s at) (place.Refused f)
+  unfolding order upTo refusalOf
+  no-count r₁ f x p array e₁ u₁ g = rw (g, ← e₁, u₁) refl
+
+  pub begun : (r₁ : NumberRead) (count p : ℕ)
+      → r₁ ≡ readNumber s at (k * k) → r₁ ≡ Number count p → k ≤ mostEvents → array₀ ≡ replicate mostEvents 0
+      → Pairing s at k array₀ array₀ p 0 count
+  unfolding order upTo
+  begun r₁ count p e₁ u₁ h z = record {
+    rows = replicate k 0;
+    stored = z ∙ zeros mostEvents k h;
+    size = length-replicate k 0;
+    kept = refl;
+    room = ap length z ∙ length-replicate {A = ℕ} mostEvents 0;
+    small = h;
+    few = read-within s at (k * k) count p (sym e₁ ∙ u₁);
+    same = rw (← e₁, u₁);
+  }
+
+  module _ (array : List ℕ) (p₀ least left : ℕ) (h : Pairing s at k array₀ array p₀ least left) where
+    pub all-read : left ≤ 0 → Stores (Padded mostEvents array) (order k s at) (place.Next p₀)
+    all-read l = rw (← h .same, turns-none (nextPair k) s left (record { least = least; rows = h .rows }) p₀ l) (refl, record { stored = h .stored; long = omega (arith, h .size, h .small) })
+
+    module _ (l : 0 < left) where
+      pub some-events : 0 < k
+      some-events = go k (h .few)
+        where
+          go : (k : ℕ) → left ≤ k * k → 0 < k
+          go zero f = absurd (omega (arith, f))
+          go (suc k) f = omega arith
+
+      pub refusal : (r : PairRead) (f : Refusal) → pairOut r ≡ risingPair k least s p₀ → r ≡ the.Refused f
+          → Stores (Padded mostEvents array) (order k s at) (place.Refused f)
+      unfolding nextPair
+      refusal r f g u =
+          let w : risingPair k least s p₀ ≡ stop (f .number) (f .place) = sym g ∙ ap pairOut u in
+          rw (← h .same, turns-stop (nextPair k) s left (record { least = least; rows = h .rows }) p₀ (f .number) (f .place) l (rw w)) refl
+
+      module _ (r : PairRead) (a b p : ℕ) (g : pairOut r ≡ risingPair k least s p₀) (u : r ≡ the.Pair a b p) where
+        in-rows : In k a b
+        in-rows = pair-in s p₀ k least a b p r u g some-events
+
+        pub place-in : a < length array
+        place-in = omega (arith, in-rows .first, h .small, h .room)
+
+        pub place-fits : Fits w64 (a * 8)
+        place-fits = record { fits = omega (arith, in-rows .first, h .small) }
+
+        pub bit-in : b < width
+        bit-in = omega (arith, in-rows .second, h .small)
+
+        pub row-fits′ : Fits w64 (a * k)
+        row-fits′ = record { fits = omega (arith, rank-small k a b (h .small) in-rows) }
+
+        pub rank-fits′ : Fits w64 (a * k + b)
+        rank-fits′ = record { fits = omega (arith, rank-small k a b (h .small) in-rows) }
+
+        pub least-fits : Fits w64 (a * k + b + 1)
+        least-fits = record { fits = omega (arith, rank-small k a b (h .small) in-rows) }
+
+        pub one-more : (v : ℕ) → v ≡ bitOr (getD array a 0) (2 ^ b) → Pairing s at k array₀ (set array a v) p (a * k + b + 1) (left - 1)
+        unfolding nextPair
+        one-more v ev =
+            let w : risingPair k least s p₀ ≡ next (record { a = a; b = b }) p = sym g ∙ ap pairOut u in
+            let i : a < length (h .rows) = omega (arith, in-rows .first, h .size) in
+            let old : getD array a 0 ≡ getD (h .rows) a 0 = rw (h .stored) (pad-get mostEvents (h .rows) a i) in
+            record {
+              rows = set (h .rows) a (bitOr (getD (h .rows) a 0) (2 ^ b));
+              stored = rw (ev, old, h .stored) (pad-put mostEvents (h .rows) a _ i);
+              size = length-set (h .rows) a _ ∙ h .size;
+              kept = length-set array a v ∙ h .kept;
+              room = length-set array a v ∙ h .room;
+              small = h .small;
+              few = omega (arith, h .few);
+              same = ap (onward (λ (o : Rows) (p : ℕ). next (o .rows) p)) (sym (turns-next (nextPair k) s left (left - 1) (record { least = least; rows = h .rows }) (withPair k (record { least = least; rows = h .rows }) (record { a = a; b = b })) p₀ p (omega arith) (rw w))) ∙ h .same;
+            }

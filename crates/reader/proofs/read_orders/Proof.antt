@@ -1,0 +1,35 @@
+use Prim.Native.Nat.{_-_}
+use borrow.Author.Needs.{needs}
+use Rattle.reader.proofs.Tables.{Orders, orders-begun, orders-stop, orders-next, table-all, table-room, step-size}
+use Rattle.reader.proofs.read_orders.Statement.{statement}
+use Rattle.reader.proofs.read_orders.Tie as tie
+
+abbrev Inv-loop : tie.InvT-loop
+Inv-loop bytes at threads k rows₀ place₀ p₀ rows place p = Orders bytes at threads k rows₀ rows place p
+
+abbrev μ-loop : tie.MeasureT-loop
+μ-loop bytes at threads k rows₀ place₀ p₀ rows place p = threads - p
+
+pub read-orders-spec : {M : Type 1} → statement M
+read-orders-spec =
+    tie.close
+    (tie.spec
+    Inv-loop
+    μ-loop
+    (λ c. search orders-begun)
+    (λ c. search needs)
+    (λ c. search needs)
+    (λ c. search needs)
+    (λ c. search needs)
+    (λ c. search needs)
+    (λ c. search needs)
+    (λ c κs. (search, search (table-room, step-size)))
+    (λ c. search needs)
+    (λ c. search needs)
+    (λ c. search needs)
+    (λ c. search orders-stop)
+    (λ c. search needs)
+    (λ c. search needs)
+    (λ c. search (orders-next, step-size))
+    (λ c. search needs)
+    (λ c. search table-all))

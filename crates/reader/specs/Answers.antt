@@ -1,0 +1,119 @@
+-- What the code's answers say, in the model's terms.
+-- Assumes nothing.
+use Prim.Native.Nat.{ℕ, _-_, _*_, _≤_}
+use mathlib.Core.Path.{_≡_}
+use mathlib.Core.Bool.{Bool, _&&_}
+use mathlib.Core.List.{List, map}
+use lib.Dec.{eqb}
+use lib.ListN.{length, getD}
+use Rattle.number.specs.Reader.{Out, stop, next, Reader, give, _>>=_, upTo, below}
+use Rattle.number.specs.declared.Refusal.{Refusal}
+use Rattle.model.specs.Limits.{mostThreads, mostAddresses, mostEvents, mostValue, mostName}
+use Rattle.model.specs.Case.{Case, Event, store}
+use Rattle.model.specs.Record.{Pair, Head, Listing, Rest}
+use Rattle.model.specs.Answers.{Part}
+use Rattle.case.specs.Held.{held, emptyCase, pad, rowsOf}
+use Rattle.reader.specs.declared.Head as code
+use Rattle.reader.specs.declared.Reading.{Reading}
+use Rattle.reader.specs.declared.NamePart.{NamePart}
+use Rattle.reader.specs.declared.EventRead.{EventRead}
+use Rattle.reader.specs.declared.EventRead.the-variants as event
+use Rattle.reader.specs.declared.PairRead.{PairRead}
+use Rattle.reader.specs.declared.PairRead.the-variants as pair
+use Rattle.reader.specs.declared.PlaceRead.{PlaceRead}
+use Rattle.reader.specs.declared.PlaceRead.the-variants as place
+use Rattle.reader.specs.declared.CountRead.{CountRead}
+use Rattle.reader.specs.declared.CountRead.the-variants as count
+use Rattle.reader.specs.declared.HeadRead.{HeadRead}
+use Rattle.reader.specs.declared.HeadRead.the-variants as head
+
+-- 01: the number and what goes with it; under a refusal the case is empty
+unfoldable pub readingOf : Out Case → Reading
+readingOf (stop x p) = record { number = x; place = p; length = 0; case = emptyCase }
+readingOf (next c i) = record { number = 0; place = 0; length = i; case = held c }
+
+-- the same of a record that starts at a place: its length is counted from there
+unfoldable pub readingFrom : ℕ → Out Case → Reading
+readingFrom at (stop x p) = readingOf (stop x p)
+readingFrom at (next c i) = readingOf (next c (i - at))
+
+abbrev pub partOf : Part → NamePart
+partOf p = record { at = p .at; length = p .length }
+
+-- What is read without being stored
+-- an event's address and value, behind its kind and thread
+unfoldable pub access : (kind thread m : ℕ) → Reader Event
+access kind thread m = do
+  address ← below m
+  value ← upTo mostValue
+  give (record { kind = kind; thread = thread; address = address; value = value })
+
+abbrev pub eventOut : EventRead → Out Event
+eventOut (event.Event e p) = next (record { kind = e .kind; thread = e .thread; address = e .address; value = e .value }) p
+eventOut (event.Refused f) = stop (f .number) (f .place)
+
+abbrev pub pairOut : PairRead → Out Pair
+pairOut (pair.Pair a b p) = next (record { a = a; b = b }) p
+pairOut (pair.Refused f) = stop (f .number) (f .place)
+
+abbrev pub modelHead : code.Head → Head
+modelHead h = record { edition = h .edition; n = h .threads; m = h .addresses }
+
+abbrev pub headOut : HeadRead → Out Head
+headOut (head.Head h p) = next (modelHead h) p
+headOut (head.Refused f) = stop (f .number) (f .place)
+
+unfoldable pub refusedAt : PlaceRead → Refusal
+refusedAt (place.Next p) = record { number = 0; place = 0 }
+refusedAt (place.Refused f) = f
+
+unfoldable pub refusedCount : CountRead → Refusal
+refusedCount (count.Count i p) = record { number = 0; place = 0 }
+refusedCount (count.Refused f) = f
+
+-- A reader that stores what it reads: the place or the refusal is the model's, and what is stored is as Stored says
+abbrev pub Stores : {A : Type 0} → (A → Type 0) → Out A → PlaceRead → Type 0
+Stores Stored (stop x p) r = r ≡ place.Refused (record { number = x; place = p })
+Stores Stored (next a p) r = (r ≡ place.Next p) × Stored a
+
+-- the same where the answer has a count too
+abbrev pub StoresCounted : {A : Type 0} → (A → ℕ) → (A → Type 0) → Out A → CountRead → Type 0
+StoresCounted number Stored (stop x p) r = r ≡ count.Refused (record { number = x; place = p })
+StoresCounted number Stored (next a p) r = (r ≡ count.Count (number a) p) × Stored a
+
+-- a list in an array of n places
+pub record Padded (n : ℕ) (array xs : List ℕ) : Type 0 where
+  pub stored : array ≡ pad n xs
+  pub long : length xs ≤ n
+
+-- lists one behind the other, each at as many places as there may be events
+pub record Tabled (n : ℕ) (array : List ℕ) (rs : List (List ℕ)) : Type 0 where
+  pub stored : array ≡ pad n (rowsOf mostEvents rs)
+  pub long : length (rowsOf mostEvents rs) ≡ length rs * mostEvents
+
+-- the events in four arrays
+pub record Events (kinds threads addresses values : List ℕ) (es : List Event) : Type 0 where
+  pub kind : kinds ≡ pad mostEvents (map (λ e. e .kind) es)
+  pub thread : threads ≡ pad mostEvents (map (λ e. e .thread) es)
+  pub address : addresses ≡ pad mostEvents (map (λ e. e .address) es)
+  pub value : values ≡ pad mostEvents (map (λ e. e .value) es)
+
+-- the arrays say that event e is a store to x
+unfoldable pub storeAt : (kinds targets : List ℕ) (x e : ℕ) → Bool
+storeAt kinds targets x e = eqb (getD kinds e 0) store && eqb (getD targets e 0) x
+
+pub record Counts (n m : ℕ) : Type 0 where
+  pub threads-least : 1 ≤ n
+  pub threads-most : n ≤ mostThreads
+  pub addresses-least : 1 ≤ m
+  pub addresses-most : m ≤ mostAddresses
+
+pub record ListingStored (initial ks ts as′ vs : List ℕ) (l : Listing) : Type 0 where
+  pub initials : Padded mostAddresses initial (l .initials)
+  pub events : Events ks ts as′ vs (l .events)
+  pub few : l .k ≤ mostEvents
+
+pub record RestStored (ws rows bs : List ℕ) (t : Rest) : Type 0 where
+  pub writes : Tabled (mostAddresses * mostEvents) ws (t .writes)
+  pub orders : Tabled (mostThreads * mostEvents) rows (t .orders)
+  pub name : Padded mostName bs (t .name)

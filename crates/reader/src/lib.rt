@@ -1,0 +1,702 @@
+// The reading of a record into a case. A record lies in a slice of bytes from a place on; what lies behind it is not read.
+ghost use mathlib.Core.Path.{_≡_};
+ghost use mathlib.Core.List.{[]};
+ghost use Prim.Native.Nat.{ℕ, _*_, _≤_, _<_};
+ghost use lib.ListN.{length, replicate};
+ghost use Rattle.finite.specs.Tests.{count as countOf};
+ghost use Rattle.number.specs.Reader.{times, turns, upTo, numberOut, stop, next};
+ghost use Rattle.bits.specs.Bit.{bit};
+ghost use Rattle.model.specs.Limits.{mostThreads, mostAddresses, mostEvents, mostValue, mostName};
+ghost use Rattle.model.specs.Case.{bare as isBare};
+ghost use Rattle.model.specs.Record.{event, risingPair, order, unlisted, writeOrder, nextWriteOrder, bytes as nameBytes, head as headOf, listing as listingOf, rest as restOf, case as caseAt, read};
+ghost use Rattle.model.specs.Answers.{name as nameOf, namePart};
+ghost use Rattle.reader.specs.Answers.{access, eventOut, pairOut, headOut, modelHead, Stores, StoresCounted, Events, Padded, Tabled, storeAt, Counts, ListingStored, RestStored, refusedAt, refusedCount, readingOf, readingFrom, partOf};
+use case::Case;
+use number::NumberRead;
+use number::Refusal;
+
+// What reading a record gives: 0, the record's length and its case; or a refusal, its place and the empty case.
+pub struct Reading {
+    pub number: u8,
+    pub place: usize,
+    pub length: usize,
+    pub case: Case,
+}
+
+// Where a record's name stands in it, and the name's length.
+pub struct NamePart {
+    pub at: usize,
+    pub length: usize,
+}
+
+pub struct Event {
+    pub kind: u8,
+    pub thread: u8,
+    pub address: u8,
+    pub value: u32,
+}
+
+// The edition, and how many threads and addresses.
+pub struct Head {
+    pub edition: usize,
+    pub threads: usize,
+    pub addresses: usize,
+}
+
+// An event and the next place, or a refusal.
+pub enum EventRead {
+    Event(Event, usize),
+    Refused(Refusal),
+}
+
+// A pair's two events and the next place, or a refusal.
+pub enum PairRead {
+    Pair(usize, usize, usize),
+    Refused(Refusal),
+}
+
+// The next place, or a refusal, where what was read is stored.
+pub enum PlaceRead {
+    Next(usize),
+    Refused(Refusal),
+}
+
+// The same with a count that was read.
+pub enum CountRead {
+    Count(usize, usize),
+    Refused(Refusal),
+}
+
+// A record's head and the next place, or a refusal.
+pub enum HeadRead {
+    Head(Head, usize),
+    Refused(Refusal),
+}
+
+// Whether events of the kind have neither address nor value.
+fn bare(kind: u8) -> bool
+    ensures { λ r. ⌜ r ≡ isBare kind ⌝ }
+{
+    kind == Case::SYNC
+}
+
+// Reads the address and the value of an event.
+fn read_access(bytes: &[u8], at: usize, kind: u8, thread: u8, addresses: usize) -> EventRead
+    requires { ⌜ (1 ≤ addresses) × (addresses ≤ mostAddresses) ⌝ }
+    ensures { λ r. ⌜ eventOut r ≡ access kind thread addresses (now (bytes .entry)) at ⌝ }
+{
+    let address_read = number::read_number(bytes, at, (addresses - 1) as u32);
+    let NumberRead::Number(address, after_address) = address_read else {
+        return EventRead::Refused(number::refused(address_read));
+    };
+    let value_read = number::read_number(bytes, after_address, Case::MOST_VALUE);
+    let NumberRead::Number(value, after_value) = value_read else {
+        return EventRead::Refused(number::refused(value_read));
+    };
+    let event = Event {
+        kind,
+        thread,
+        address: address as u8,
+        value,
+    };
+    EventRead::Event(event, after_value)
+}
+
+// Reads an event of a case with so many threads and addresses.
+fn read_event(bytes: &[u8], at: usize, threads: usize, addresses: usize) -> EventRead
+    requires { ⌜ Counts threads addresses ⌝ }
+    ensures { λ r. ⌜ eventOut r ≡ event threads addresses (now (bytes .entry)) at ⌝ }
+{
+    let kind_read = number::read_number(bytes, at, Case::MOST_KIND as u32);
+    let NumberRead::Number(kind, after_kind) = kind_read else {
+        return EventRead::Refused(number::refused(kind_read));
+    };
+    let thread_read = number::read_number(bytes, after_kind, (threads - 1) as u32);
+    let NumberRead::Number(thread, after_thread) = thread_read else {
+        return EventRead::Refused(number::refused(thread_read));
+    };
+    if bare(kind as u8) {
+        let event = Event {
+            kind: kind as u8,
+            thread: thread as u8,
+            address: 0,
+            value: 0,
+        };
+        return EventRead::Event(event, after_thread);
+    }
+    read_access(bytes, after_thread, kind as u8, thread as u8, addresses)
+}
+
+// Reads count events into four arrays that hold zeros.
+fn read_events(
+    bytes: &[u8],
+    at: usize,
+    threads: usize,
+    addresses: usize,
+    count: usize,
+    kinds: &mut [u8; Case::MOST_EVENTS],
+    owners: &mut [u8; Case::MOST_EVENTS],
+    targets: &mut [u8; Case::MOST_EVENTS],
+    values: &mut [u32; Case::MOST_EVENTS],
+) -> PlaceRead
+    requires { ⌜ Counts threads addresses ⌝ }
+    requires { ⌜ count ≤ mostEvents ⌝ }
+    requires { ⌜ Events (now kinds) (now owners) (now targets) (now values) [] ⌝ }
+    ensures { λ r. ⌜ Stores (Events (now (kinds .exit)) (now (owners .exit)) (now (targets .exit)) (now (values .exit))) (times count (event threads addresses) (now (bytes .entry)) at) r ⌝ }
+{
+    let mut place = at;
+    let mut e: usize = 0;
+    while e < count {
+        let read = read_event(bytes, place, threads, addresses);
+        match read {
+            EventRead::Refused(refusal) => {
+                return PlaceRead::Refused(refusal);
+            }
+            EventRead::Event(event, next) => {
+                kinds[e] = event.kind;
+                owners[e] = event.thread;
+                targets[e] = event.address;
+                values[e] = event.value;
+                place = next;
+            }
+        }
+        e += 1;
+    }
+    PlaceRead::Next(place)
+}
+
+// Reads a pair of event numbers below k, of rank least or above.
+fn read_pair(bytes: &[u8], at: usize, k: usize, least: usize) -> PairRead
+    requires { ⌜ (0 < k) × (k ≤ mostEvents) ⌝ }
+    ensures { λ r. ⌜ pairOut r ≡ risingPair k least (now (bytes .entry)) at ⌝ }
+{
+    let first = number::read_number(bytes, at, (k - 1) as u32);
+    let NumberRead::Number(a, after_first) = first else {
+        return PairRead::Refused(number::refused(first));
+    };
+    let second = number::read_number(bytes, after_first, (k - 1) as u32);
+    let NumberRead::Number(b, after_second) = second else {
+        return PairRead::Refused(number::refused(second));
+    };
+    if least <= (a as usize) * k + (b as usize) {
+        return PairRead::Pair(a as usize, b as usize, after_second);
+    }
+    PairRead::Refused(Refusal {
+        number: 4,
+        place: at,
+    })
+}
+
+// Reads an order of k events into rows that hold zeros.
+fn read_order(bytes: &[u8], at: usize, k: usize, rows: &mut [u64]) -> PlaceRead
+    requires { ⌜ k ≤ mostEvents ⌝ }
+    requires { ⌜ now rows ≡ replicate mostEvents 0 ⌝ }
+    ensures { λ r. ⌜ Stores (Padded mostEvents (now (rows .exit))) (order k (now (bytes .entry)) at) r ⌝ }
+{
+    let count_read = number::read_number(bytes, at, (k * k) as u32);
+    let NumberRead::Number(count, after_count) = count_read else {
+        return PlaceRead::Refused(number::refused(count_read));
+    };
+    let mut place = after_count;
+    let mut least: usize = 0;
+    let mut left = count;
+    while 0 < left {
+        let read = read_pair(bytes, place, k, least);
+        match read {
+            PairRead::Refused(refusal) => {
+                return PlaceRead::Refused(refusal);
+            }
+            PairRead::Pair(a, b, next) => {
+                rows[a] = bits::with(rows[a], b);
+                least = a * k + b + 1;
+                place = next;
+            }
+        }
+        left -= 1;
+    }
+    PlaceRead::Next(place)
+}
+
+// Reads the orders of so many threads into rows that hold zeros.
+fn read_orders(bytes: &[u8], at: usize, threads: usize, k: usize, rows: &mut [u64]) -> PlaceRead
+    requires { ⌜ (threads ≤ mostThreads) × (k ≤ mostEvents) ⌝ }
+    requires { ⌜ now rows ≡ replicate (mostThreads * mostEvents) 0 ⌝ }
+    ensures { λ r. ⌜ Stores (Tabled (mostThreads * mostEvents) (now (rows .exit))) (times threads (order k) (now (bytes .entry)) at) r ⌝ }
+{
+    let mut place = at;
+    let mut p: usize = 0;
+    while p < threads {
+        let start = p * Case::MOST_EVENTS;
+        let end = start + Case::MOST_EVENTS;
+        let read = read_order(bytes, place, k, &mut rows[start..end]);
+        let PlaceRead::Next(next) = read else {
+            return read;
+        };
+        place = next;
+        p += 1;
+    }
+    PlaceRead::Next(place)
+}
+
+// Reads the initial values of so many addresses into an array that holds zeros.
+fn read_initials(
+    bytes: &[u8],
+    at: usize,
+    addresses: usize,
+    values: &mut [u32; Case::MOST_ADDRESSES],
+) -> PlaceRead
+    requires { ⌜ addresses ≤ mostAddresses ⌝ }
+    requires { ⌜ now values ≡ replicate mostAddresses 0 ⌝ }
+    ensures { λ r. ⌜ Stores (Padded mostAddresses (now (values .exit))) (times addresses (upTo mostValue) (now (bytes .entry)) at) r ⌝ }
+{
+    let mut place = at;
+    let mut x: usize = 0;
+    while x < addresses {
+        let read = number::read_number(bytes, place, Case::MOST_VALUE);
+        let NumberRead::Number(value, next) = read else {
+            return PlaceRead::Refused(number::refused(read));
+        };
+        values[x] = value;
+        place = next;
+        x += 1;
+    }
+    PlaceRead::Next(place)
+}
+
+fn wide(x: u8) -> usize
+    ensures { λ r. ⌜ r ≡ x ⌝ }
+{
+    x as usize
+}
+
+// Whether event e is a store to x.
+fn store_at(
+    kinds: &[u8; Case::MOST_EVENTS],
+    targets: &[u8; Case::MOST_EVENTS],
+    x: usize,
+    e: usize,
+) -> bool
+    requires { ⌜ e < mostEvents ⌝ }
+    ensures { λ r. ⌜ r ≡ storeAt (now (kinds .entry)) (now (targets .entry)) x e ⌝ }
+{
+    kinds[e] == Case::STORE && wide(targets[e]) == x
+}
+
+// How many of k events are stores to x.
+fn count_stores(
+    kinds: &[u8; Case::MOST_EVENTS],
+    targets: &[u8; Case::MOST_EVENTS],
+    k: usize,
+    x: usize,
+) -> usize
+    requires { ⌜ k ≤ mostEvents ⌝ }
+    ensures { λ r. ⌜ r ≡ countOf k (storeAt (now (kinds .entry)) (now (targets .entry)) x) ⌝ }
+{
+    let mut n: usize = 0;
+    let mut e: usize = 0;
+    while e < k {
+        if store_at(kinds, targets, x, e) {
+            n += 1;
+        }
+        e += 1;
+    }
+    n
+}
+
+// Reads the number of a store to x that is not listed yet.
+fn read_store(
+    bytes: &[u8],
+    at: usize,
+    k: usize,
+    x: usize,
+    kinds: &[u8; Case::MOST_EVENTS],
+    targets: &[u8; Case::MOST_EVENTS],
+    listed: u64,
+) -> NumberRead
+    requires { ⌜ (0 < k) × (k ≤ mostEvents) ⌝ }
+    ensures { λ r. ⌜ numberOut r ≡ unlisted k (storeAt (now (kinds .entry)) (now (targets .entry)) x) (bit listed) (now (bytes .entry)) at ⌝ }
+{
+    let read = number::read_number(bytes, at, (k - 1) as u32);
+    let NumberRead::Number(e, next) = read else {
+        return read;
+    };
+    if store_at(kinds, targets, x, e as usize) {
+        if bits::has(listed, e as usize) {
+            return NumberRead::Refused(4, at);
+        }
+        return NumberRead::Number(e, next);
+    }
+    NumberRead::Refused(4, at)
+}
+
+// Reads the write order of x into a part that holds zeros.
+fn read_write_order(
+    bytes: &[u8],
+    at: usize,
+    k: usize,
+    x: usize,
+    kinds: &[u8; Case::MOST_EVENTS],
+    targets: &[u8; Case::MOST_EVENTS],
+    writes: &mut [u8],
+) -> PlaceRead
+    requires { ⌜ k ≤ mostEvents ⌝ }
+    requires { ⌜ now writes ≡ replicate mostEvents 0 ⌝ }
+    ensures { λ r. ⌜ Stores (Padded mostEvents (now (writes .exit))) (writeOrder k (storeAt (now (kinds .entry)) (now (targets .entry)) x) (now (bytes .entry)) at) r ⌝ }
+{
+    let count = count_stores(kinds, targets, k, x);
+    let mut place = at;
+    let mut listed: u64 = 0;
+    let mut j: usize = 0;
+    while j < count {
+        let read = read_store(bytes, place, k, x, kinds, targets, listed);
+        let NumberRead::Number(e, next) = read else {
+            return PlaceRead::Refused(number::refused(read));
+        };
+        writes[j] = e as u8;
+        listed = bits::with(listed, e as usize);
+        place = next;
+        j += 1;
+    }
+    PlaceRead::Next(place)
+}
+
+// Reads the write orders of so many addresses into an array that holds zeros.
+fn read_writes(
+    bytes: &[u8],
+    at: usize,
+    addresses: usize,
+    k: usize,
+    kinds: &[u8; Case::MOST_EVENTS],
+    targets: &[u8; Case::MOST_EVENTS],
+    writes: &mut [u8],
+) -> PlaceRead
+    requires { ⌜ (addresses ≤ mostAddresses) × (k ≤ mostEvents) ⌝ }
+    requires { ⌜ now writes ≡ replicate (mostAddresses * mostEvents) 0 ⌝ }
+    ensures { λ r. ⌜ Stores (Tabled (mostAddresses * mostEvents) (now (writes .exit))) (turns addresses (nextWriteOrder k (storeAt (now (kinds .entry)) (now (targets .entry)))) [] (now (bytes .entry)) at) r ⌝ }
+{
+    let mut place = at;
+    let mut x: usize = 0;
+    while x < addresses {
+        let start = x * Case::MOST_EVENTS;
+        let end = start + Case::MOST_EVENTS;
+        let read = read_write_order(bytes, place, k, x, kinds, targets, &mut writes[start..end]);
+        let PlaceRead::Next(next) = read else {
+            return read;
+        };
+        place = next;
+        x += 1;
+    }
+    PlaceRead::Next(place)
+}
+
+// Reads a name of i bytes into an array that holds zeros.
+fn read_name(bytes: &[u8], at: usize, i: usize, name: &mut [u8; Case::MOST_NAME]) -> PlaceRead
+    requires { ⌜ i ≤ mostName ⌝ }
+    requires { ⌜ now name ≡ replicate mostName 0 ⌝ }
+    ensures { λ r. ⌜ Stores (Padded mostName (now (name .exit))) (nameBytes i (now (bytes .entry)) at) r ⌝ }
+{
+    if bytes.len() < at {
+        return PlaceRead::Refused(Refusal {
+            number: 1,
+            place: at,
+        });
+    }
+    if bytes.len() - at < i {
+        return PlaceRead::Refused(Refusal {
+            number: 1,
+            place: at,
+        });
+    }
+    let mut j: usize = 0;
+    while j < i {
+        name[j] = bytes[at + j];
+        j += 1;
+    }
+    PlaceRead::Next(at + i)
+}
+
+// The refusal of a stage that stores.
+fn refused_at(r: PlaceRead) -> Refusal
+    ensures { λ f. ⌜ f ≡ refusedAt r ⌝ }
+{
+    match r {
+        PlaceRead::Refused(f) => f,
+        PlaceRead::Next(_) => Refusal {
+            number: 0,
+            place: 0,
+        },
+    }
+}
+
+// The same of one with a count.
+fn refused_count(r: CountRead) -> Refusal
+    ensures { λ f. ⌜ f ≡ refusedCount r ⌝ }
+{
+    match r {
+        CountRead::Refused(f) => f,
+        CountRead::Count(_, _) => Refusal {
+            number: 0,
+            place: 0,
+        },
+    }
+}
+
+// Reads the edition, and the counts of threads and addresses.
+fn read_head(bytes: &[u8], at: usize) -> HeadRead
+    ensures { λ r. ⌜ headOut r ≡ headOf (now (bytes .entry)) at ⌝ }
+{
+    let edition_read = number::read_within(
+        bytes,
+        at,
+        Case::LEAST_EDITION as u32,
+        Case::MOST_EDITION as u32,
+    );
+    let NumberRead::Number(edition, after_edition) = edition_read else {
+        return HeadRead::Refused(number::refused(edition_read));
+    };
+    let threads_read = number::read_within(bytes, after_edition, 1, Case::MOST_THREADS as u32);
+    let NumberRead::Number(threads, after_threads) = threads_read else {
+        return HeadRead::Refused(number::refused(threads_read));
+    };
+    let addresses_read = number::read_within(bytes, after_threads, 1, Case::MOST_ADDRESSES as u32);
+    let NumberRead::Number(addresses, after_addresses) = addresses_read else {
+        return HeadRead::Refused(number::refused(addresses_read));
+    };
+    let head = Head {
+        edition: edition as usize,
+        threads: threads as usize,
+        addresses: addresses as usize,
+    };
+    HeadRead::Head(head, after_addresses)
+}
+
+// Reads the initial values and the events into arrays that hold zeros; gives how many events.
+fn read_listing(
+    bytes: &[u8],
+    at: usize,
+    threads: usize,
+    addresses: usize,
+    initial: &mut [u32; Case::MOST_ADDRESSES],
+    kinds: &mut [u8; Case::MOST_EVENTS],
+    owners: &mut [u8; Case::MOST_EVENTS],
+    targets: &mut [u8; Case::MOST_EVENTS],
+    values: &mut [u32; Case::MOST_EVENTS],
+) -> CountRead
+    requires { ⌜ Counts threads addresses ⌝ }
+    requires { ⌜ now initial ≡ replicate mostAddresses 0 ⌝ }
+    requires { ⌜ Events (now kinds) (now owners) (now targets) (now values) [] ⌝ }
+    ensures { λ r. ⌜ StoresCounted (λ l. l .k) (ListingStored (now (initial .exit)) (now (kinds .exit)) (now (owners .exit)) (now (targets .exit)) (now (values .exit))) (listingOf threads addresses (now (bytes .entry)) at) r ⌝ }
+{
+    let initials = read_initials(bytes, at, addresses, initial);
+    let PlaceRead::Next(after_initials) = initials else {
+        return CountRead::Refused(refused_at(initials));
+    };
+    let count = number::read_number(bytes, after_initials, Case::MOST_EVENTS as u32);
+    let NumberRead::Number(k, after_count) = count else {
+        return CountRead::Refused(number::refused(count));
+    };
+    let events = read_events(
+        bytes,
+        after_count,
+        threads,
+        addresses,
+        k as usize,
+        kinds,
+        owners,
+        targets,
+        values,
+    );
+    let PlaceRead::Next(after_events) = events else {
+        return CountRead::Refused(refused_at(events));
+    };
+    CountRead::Count(k as usize, after_events)
+}
+
+// Reads the write orders, the orders and the name into arrays that hold zeros; gives the name's length.
+fn read_rest(
+    bytes: &[u8],
+    at: usize,
+    threads: usize,
+    addresses: usize,
+    k: usize,
+    kinds: &[u8; Case::MOST_EVENTS],
+    targets: &[u8; Case::MOST_EVENTS],
+    writes: &mut [u8],
+    rows: &mut [u64],
+    name: &mut [u8; Case::MOST_NAME],
+) -> CountRead
+    requires { ⌜ Counts threads addresses ⌝ }
+    requires { ⌜ k ≤ mostEvents ⌝ }
+    requires { ⌜ now writes ≡ replicate (mostAddresses * mostEvents) 0 ⌝ }
+    requires { ⌜ now rows ≡ replicate (mostThreads * mostEvents) 0 ⌝ }
+    requires { ⌜ now name ≡ replicate mostName 0 ⌝ }
+    ensures { λ r. ⌜ StoresCounted (λ t. length (t .name)) (RestStored (now (writes .exit)) (now (rows .exit)) (now (name .exit))) (restOf threads addresses k (storeAt (now (kinds .entry)) (now (targets .entry))) (now (bytes .entry)) at) r ⌝ }
+{
+    let written = read_writes(bytes, at, addresses, k, kinds, targets, writes);
+    let PlaceRead::Next(after_writes) = written else {
+        return CountRead::Refused(refused_at(written));
+    };
+    let orders = read_orders(bytes, after_writes, threads, k, rows);
+    let PlaceRead::Next(after_orders) = orders else {
+        return CountRead::Refused(refused_at(orders));
+    };
+    let count = number::read_number(bytes, after_orders, Case::MOST_NAME as u32);
+    let NumberRead::Number(i, after_count) = count else {
+        return CountRead::Refused(number::refused(count));
+    };
+    let named = read_name(bytes, after_count, i as usize, name);
+    let PlaceRead::Next(end) = named else {
+        return CountRead::Refused(refused_at(named));
+    };
+    CountRead::Count(i as usize, end)
+}
+
+// The answer to a record that can't be read.
+fn no_case(f: Refusal) -> Reading
+    ensures { λ r. ⌜ r ≡ readingOf (stop (f .number) (f .place)) ⌝ }
+{
+    let case = Case::empty();
+    Reading {
+        number: f.number,
+        place: f.place,
+        length: 0,
+        case,
+    }
+}
+
+// Reads what follows the head of a record that starts at start.
+fn read_body(bytes: &[u8], start: usize, head: Head, at: usize) -> Reading
+    requires { ⌜ headOf (now bytes) start ≡ next (modelHead head) at ⌝ }
+    ensures { λ r. ⌜ r ≡ readingFrom start (caseAt (now (bytes .entry)) start) ⌝ }
+{
+    let edition = head.edition;
+    let threads = head.threads;
+    let addresses = head.addresses;
+    let mut initial = [0u32; Case::MOST_ADDRESSES];
+    let mut kind = [0u8; Case::MOST_EVENTS];
+    let mut thread = [0u8; Case::MOST_EVENTS];
+    let mut address = [0u8; Case::MOST_EVENTS];
+    let mut value = [0u32; Case::MOST_EVENTS];
+    let listing = read_listing(
+        bytes,
+        at,
+        threads,
+        addresses,
+        &mut initial,
+        &mut kind,
+        &mut thread,
+        &mut address,
+        &mut value,
+    );
+    let CountRead::Count(events, after_events) = listing else {
+        return no_case(refused_count(listing));
+    };
+    let mut writes = [0u8; Case::MOST_ADDRESSES * Case::MOST_EVENTS];
+    let mut rows = [0u64; Case::MOST_THREADS * Case::MOST_EVENTS];
+    let mut name = [0u8; Case::MOST_NAME];
+    let rest = read_rest(
+        bytes,
+        after_events,
+        threads,
+        addresses,
+        events,
+        &kind,
+        &address,
+        &mut writes,
+        &mut rows,
+        &mut name,
+    );
+    let CountRead::Count(namelength, end) = rest else {
+        return no_case(refused_count(rest));
+    };
+    let length = end - start;
+    let case = Case {
+        edition,
+        threads,
+        addresses,
+        events,
+        initial,
+        kind,
+        thread,
+        address,
+        value,
+        writes,
+        rows,
+        name,
+        namelength,
+    };
+    Reading {
+        number: 0,
+        place: 0,
+        length,
+        case,
+    }
+}
+
+// Reads the record that starts at a place.
+fn read_record(bytes: &[u8], at: usize) -> Reading
+    ensures { λ r. ⌜ r ≡ readingFrom at (caseAt (now (bytes .entry)) at) ⌝ }
+{
+    let read = read_head(bytes, at);
+    match read {
+        HeadRead::Refused(f) => no_case(f),
+        HeadRead::Head(head, next) => read_body(bytes, at, head, next),
+    }
+}
+
+// Bytes that records lie in, and the place of the record to be read.
+pub struct Reader<'a> {
+    pub bytes: &'a [u8],
+    pub place: usize,
+}
+
+impl<'a> Reader<'a> {
+    pub fn new(bytes: &'a [u8], place: usize) -> Reader<'a>
+        ensures { λ r. ⌜ (r .bytes ≡ bytes .entry) × (r .place ≡ place) ⌝ }
+    {
+        Reader { bytes, place }
+    }
+
+    // Reads the record at the reader's place.
+    pub fn read(self) -> Reading
+        ensures { λ r. ⌜ r ≡ readingFrom (self .entry .place) (caseAt (now (self .entry .bytes)) (self .entry .place)) ⌝ }
+    {
+        read_record(self.bytes, self.place)
+    }
+}
+
+// Reads the record that starts at a place: records may lie back to back.
+pub fn read_from(bytes: &[u8], at: usize) -> Reading
+    ensures { λ r. ⌜ r ≡ readingFrom at (caseAt (now (bytes .entry)) at) ⌝ }
+{
+    Reader::new(bytes, at).read()
+}
+
+// Reads the record that the bytes start with.
+pub fn read_case(bytes: &[u8]) -> Reading
+    ensures { λ r. ⌜ r ≡ readingOf (read (now (bytes .entry))) ⌝ }
+{
+    read_from(bytes, 0)
+}
+
+// Where the record's name stands; no part under a refusal.
+pub fn name_part(bytes: &[u8]) -> NamePart
+    ensures { λ r. ⌜ r ≡ partOf (namePart (read (now (bytes .entry)))) ⌝ }
+{
+    let reading = read_case(bytes);
+    let length = reading.case.namelength;
+    NamePart {
+        at: reading.length - length,
+        length,
+    }
+}
+
+// The record's name, as a part of its own bytes; empty under a refusal.
+pub fn name(bytes: &[u8]) -> &[u8]
+    ensures { λ r. ⌜ now r ≡ nameOf (now (bytes .entry)) ⌝ }
+{
+    let part = name_part(bytes);
+    let start = part.at;
+    let end = start + part.length;
+    &bytes[start..end]
+}

@@ -1,0 +1,341 @@
+-- Laws of `run` and `sum`, of sizes and of stages: what a function that counts or writes a stage does, and the turns of its loop.
+-- Assumes nothing.
+use Prim.Native.Nat.{ℕ, zero, suc, _+_, _*_, _/_, _^_, _≤_, _<_}
+use native.Mathlib.Nat.{pow-suc, add-mul, one-mul, le-trans, lt-of-le-of-lt, le-antisymm, mul-le-mul-right, mul-le-mul-left, add-zero, le-of-suc-le-suc, eq-or-lt-of-le}
+use native.Mathlib.Omega.{arith}
+use native.Mathlib.Numerals.{add-one}
+use mathlib.Core.Path.{_≡_, refl, sym, ap, ap₂, _∙_, subst}
+use mathlib.Core.Logic.{⊎-elim}
+use mathlib.Core.Bool.{Bool, true, false, cond}
+use mathlib.Core.List.{List, [], _∷_, _++_, append-nil, append-assoc}
+use lib.ListN.{length, take, drop, set, length-append, take-append-drop}
+use Rattle.number.specs.Number.{encode, splice}
+use Rattle.number.proofs.Encoding.{lt-or-ge, encode-long, encode-low, encode-high}
+use Rattle.number.proofs.Splice.{splice-length, splice-append, is-sets}
+use borrow.Author.Tests.{eq-eqb, ne-eqb}
+use mir.Syntax.{w64}
+use mir.Val.{Fits}
+use Rattle.finite.specs.Tests.{count}
+use Rattle.bits.specs.Bit.{bit}
+use Rattle.model.specs.Limits.{mostEvents}
+use Rattle.model.specs.Case.{sync, bare}
+use Rattle.model.specs.Written.{eventBytes}
+use Rattle.case.specs.Held.{eventOf}
+use Rattle.case.proofs.WriteOrders.{count-le}
+use Rattle.writer.specs.Stages.{run, sum, frontBytes, bitBytes, rowAt, pairs, orderAt, byteAt, nameBytes, Room, Wrote, Size, mostNumber}
+
+-- ---- the size of a number
+encode-few : (n v : ℕ) → v < 128 ^ suc n → length (encode v) ≤ suc n
+encode-few zero v h = rw (encode-low v (omega arith)) (omega arith)
+encode-few (suc n) v h =
+    ⊎-elim (λ l. rw (encode-low v l) (omega arith))
+    (λ g. rw (encode-high v g)
+    (let h′ : v < 128 ^ suc n * 128 = subst (λ (x : ℕ). v < x) (pow-suc 128 (suc n)) h in
+    let i : length (encode (v / 128)) ≤ suc n = encode-few n (v / 128) (omega arith) in
+    omega arith))
+    (lt-or-ge v 128)
+
+pub number-few : (v : ℕ) → v < 2 ^ 32 → length (encode v) ≤ mostNumber
+number-few v h = encode-few 4 v (omega arith)
+
+-- size bytes were counted, but for those of the rest
+pub record Counted (v rest size : ℕ) : Type 0 where
+  pub same : size + length (encode rest) ≡ 1 + length (encode v)
+
+pub counted-none : (v : ℕ) → Counted v v 1
+counted-none v = record { same = refl }
+
+module _ (v rest size : ℕ) (h : Counted v rest size) where
+  pub one-counted : 128 ≤ rest → Counted v (rest / 128) (size + 1)
+  one-counted g =
+      let e : length (encode rest) ≡ 1 + length (encode (rest / 128)) = rw (encode-high rest g) (omega arith) in
+      record { same = omega (arith, h .same) }
+
+  pub counted-small : v < 2 ^ 32 → size ≤ mostNumber
+  counted-small b = omega (arith, h .same, number-few v b, encode-long rest)
+
+  pub counted-all : v < 2 ^ 32 → rest < 128 → Size (encode v) mostNumber size
+  counted-all b g =
+      let e : length (encode rest) ≡ 1 = rw (encode-low rest g) in
+      record { size = omega (arith, h .same); few = counted-small b }
+
+-- ---- sizes one behind the other
+pub size-append : (v w : List ℕ) (a b x y : ℕ) → Size v a x → Size w b y → Size (v ++ w) (a + b) (x + y)
+size-append v w a b x y s t = record { size = omega (arith, length-append v w, s .size, t .size); few = omega (arith, s .few, t .few) }
+
+-- ---- runs
+pub run-more : (h : ℕ → List ℕ) (i : ℕ) → run h (i + 1) ≡ run h i ++ h i
+unfolding run
+run-more h i = rw (add-one i)
+
+-- total bytes are those of the first i of n
+pub record Sized (h : ℕ → List ℕ) (most n total i : ℕ) : Type 0 where
+  pub within : i ≤ n
+  pub size : total ≡ length (run h i)
+  pub few : total ≤ i * most
+
+module _ (h : ℕ → List ℕ) (most n : ℕ) where
+  pub none-sized : Sized h most n 0 0
+  unfolding run
+  none-sized = record { within = omega arith; size = refl; few = omega arith }
+
+  module _ (total i : ℕ) (s : Sized h most n total i) where
+    pub one-sized : i < n → (x : ℕ) → Size (h i) most x → Sized h most n (total + x) (i + 1)
+    one-sized l x z = record {
+      within = omega arith;
+      size = ap₂ (λ (a b : ℕ). a + b) (s .size) (z .size) ∙ sym (length-append (run h i) (h i)) ∙ sym (ap length (run-more h i));
+      few = let e : (i + 1) * most ≡ i * most + most = add-mul i 1 most ∙ ap (λ (x : ℕ). i * most + x) (one-mul most) in omega (arith, s .few, z .few);
+    }
+
+    pub all-sized : (room : ℕ) → n ≤ room → n ≤ i → Size (run h n) (room * most) total
+    all-sized room r l = record {
+      size = s .size ∙ ap (λ (j : ℕ). length (run h j)) (le-antisymm (s .within) l);
+      few = le-trans (s .few) (mul-le-mul-right most (le-trans (s .within) r));
+    }
+
+-- ---- sums
+pub sum-more : (f : ℕ → ℕ) (i : ℕ) → sum f (i + 1) ≡ sum f i + f i
+unfolding sum
+sum-more f i = rw (add-one i)
+
+pub record Summed (f : ℕ → ℕ) (n total i : ℕ) : Type 0 where
+  pub within : i ≤ n
+  pub total-is : total ≡ sum f i
+  pub few : total ≤ i * n
+
+module _ (f : ℕ → ℕ) (n : ℕ) where
+  pub none-summed : Summed f n 0 0
+  unfolding sum
+  none-summed = record { within = omega arith; total-is = refl; few = omega arith }
+
+  module _ (total i : ℕ) (s : Summed f n total i) where
+    pub one-summed : i < n → (x : ℕ) → x ≡ f i → f i ≤ n → Summed f n (total + x) (i + 1)
+    one-summed l x e b = record {
+      within = omega arith;
+      total-is = ap₂ (λ (a b : ℕ). a + b) (s .total-is) e ∙ sym (sum-more f i);
+      few = let z : (i + 1) * n ≡ i * n + n = add-mul i 1 n ∙ ap (λ (x : ℕ). i * n + x) (one-mul n) in omega (arith, s .few);
+    }
+
+    pub all-summed : (room : ℕ) → n ≤ room → n ≤ i → (total ≡ sum f n) × (total ≤ room * room)
+    all-summed room r l = (
+      s .total-is ∙ ap (sum f) (le-antisymm (s .within) l),
+      le-trans (s .few) (le-trans (mul-le-mul-right n (le-trans (s .within) r)) (mul-le-mul-left room r)),
+    )
+
+-- ---- stages
+module _ (s : List ℕ) (at : ℕ) where
+  pub wrote-none : Wrote s at [] s at
+  unfolding splice
+  wrote-none = record { next-is = omega arith; buffer = rw (append-nil (take at s), add-zero at, take-append-drop at s) }
+
+  module _ (v w : List ℕ) (r : Room s at (v ++ w)) where
+    pub room-first : Room s at v
+    room-first = omega (arith, length-append v w)
+
+    module _ (t : List ℕ) (p : ℕ) (f : Wrote s at v t p) where
+      pub room-then : Room t p w
+      room-then =
+          let n : length t ≡ length s = ap length (f .buffer) ∙ splice-length s at v room-first in
+          omega (arith, length-append v w, f .next-is)
+
+      pub wrote-then : (u : List ℕ) (q : ℕ) → Wrote t p w u q → Wrote s at (v ++ w) u q
+      wrote-then u q g = record {
+        next-is = omega (arith, length-append v w, f .next-is, g .next-is);
+        buffer = g .buffer ∙ ap₂ (λ (l : List ℕ) (i : ℕ). splice l i w) (f .buffer) (f .next-is) ∙ splice-append s at v w r;
+      }
+
+-- the stage's first i of n parts were written
+pub record Writing (h : ℕ → List ℕ) (n : ℕ) (s : List ℕ) (at : ℕ) (t : List ℕ) (p i : ℕ) : Type 0 where
+  pub within : i ≤ n
+  pub room : Room s at (run h n)
+  pub wrote : Wrote s at (run h i) t p
+
+run-le : (h : ℕ → List ℕ) (n i : ℕ) → i ≤ n → length (run h i) ≤ length (run h n)
+unfolding run
+run-le h zero i l = let z : i ≡ 0 = omega arith in rw z (omega arith)
+run-le h (suc n) i l =
+    ⊎-elim (λ e. rw e (omega arith)) (λ b. omega (arith, run-le h n i (le-of-suc-le-suc b), length-append (run h n) (h n))) (eq-or-lt-of-le l)
+
+module _ (h : ℕ → List ℕ) (n : ℕ) (s : List ℕ) (at : ℕ) where
+  pub none-written : Room s at (run h n) → Writing h n s at s at 0
+  unfolding run
+  none-written r = record { within = omega arith; room = r; wrote = wrote-none s at }
+
+  module _ (t : List ℕ) (p i : ℕ) (g : Writing h n s at t p i) where
+    room-both : i < n → Room s at (run h i ++ h i)
+    room-both l = rw (← run-more h i) (omega (arith, run-le h n (i + 1) (omega arith), g .room))
+
+    pub room-next : i < n → Room t p (h i)
+    room-next l = room-then s at (run h i) (h i) (room-both l) t p (g .wrote)
+
+    pub one-written : i < n → (u : List ℕ) (q : ℕ) → Wrote t p (h i) u q → Writing h n s at u q (i + 1)
+    one-written l u q w = record {
+      within = omega arith;
+      room = g .room;
+      wrote = rw (run-more h i) (wrote-then s at (run h i) (h i) (room-both l) t p (g .wrote) u q w);
+    }
+
+    pub all-written : n ≤ i → Wrote s at (run h n) t p
+    all-written l = rw (← le-antisymm (g .within) l) (g .wrote)
+
+    pub same-length : length t ≡ length s
+    same-length = ap length (g .wrote .buffer) ∙ splice-length s at (run h i) (omega (arith, run-le h n i (g .within), g .room))
+
+-- ---- a byte
+pub wrote-byte : (s : List ℕ) (at b : ℕ) → Room s at (b ∷ []) → Wrote s at (b ∷ []) (set s at b) (at + 1)
+wrote-byte s at b r = record { next-is = refl; buffer = is-sets s at (b ∷ []) r }
+
+-- ---- a pair, if it stands in the row
+module _ (row a b : ℕ) (t : Bool) (e : t ≡ bit row b) where
+  bit-pair : t ≡ true → bitBytes row a b ≡ encode a ++ encode b
+  unfolding bitBytes
+  bit-pair y = rw (← e, y)
+
+  bit-none : t ≡ false → bitBytes row a b ≡ []
+  unfolding bitBytes
+  bit-none y = rw (← e, y)
+
+  module _ (s : List ℕ) (at : ℕ) where
+    pub room-taken : t ≡ true → Room s at (bitBytes row a b) → Room s at (encode a ++ encode b)
+    room-taken y r = rw (bit-pair y) at r
+
+    pub bit-taken : t ≡ true → (u : List ℕ) (q : ℕ) → Wrote s at (encode a ++ encode b) u q → Wrote s at (bitBytes row a b) u q
+    bit-taken y u q w = rw (bit-pair y) w
+
+    pub bit-left : t ≡ false → Wrote s at (bitBytes row a b) s at
+    bit-left y = rw (bit-none y) (wrote-none s at)
+
+  pub size-taken : t ≡ true → (most x : ℕ) → Size (encode a ++ encode b) most x → Size (bitBytes row a b) most x
+  size-taken y most x z = rw (bit-pair y) z
+
+  pub size-left : t ≡ false → (most : ℕ) → Size (bitBytes row a b) most 0
+  size-left y most = rw (bit-none y) (record { size = refl; few = omega arith })
+
+-- ---- an event
+module _ (k t a v : ℕ) where
+  event-bytes : eventBytes (eventOf k t a v) ≡ (encode k ++ encode t) ++ cond (bare k) [] (encode a ++ encode v)
+  unfolding eventBytes eventOf
+  event-bytes = by (bare k) refl
+    where
+      by : (b : Bool) → bare k ≡ b
+          → eventBytes (cond b (record { kind = k; thread = t; address = 0; value = 0 }) (record { kind = k; thread = t; address = a; value = v }))
+          ≡ (encode k ++ encode t) ++ cond b [] (encode a ++ encode v)
+      by true h = rw h (sym (append-assoc (encode k) (encode t) []))
+      by false h = rw h (sym (append-assoc (encode k) (encode t) (encode a ++ encode v)))
+
+  event-bare : k ≡ sync → eventBytes (eventOf k t a v) ≡ encode k ++ encode t
+  event-bare h = event-bytes ∙ rw (eq-eqb k sync h) (append-nil (encode k ++ encode t))
+
+  event-full : (k ≡ sync → ⊥) → eventBytes (eventOf k t a v) ≡ (encode k ++ encode t) ++ (encode a ++ encode v)
+  event-full h = event-bytes ∙ rw (ne-eqb k sync h)
+
+  -- the ways through an event: front is how many bytes its kind and thread take, wk and wt are the two as they are written
+  module _ (wk wt : ℕ) (ek : wk ≡ k) (et : wt ≡ t) where
+    pub bare-size : k ≡ sync → (most most′ x : ℕ) → most ≤ most′ → Size (encode wk ++ encode wt) most x → Size (eventBytes (eventOf k t a v)) most′ x
+    bare-size h most most′ x l z = rw (event-bare h, ← ek, ← et) (record { size = z .size; few = omega (arith, z .few) })
+
+    pub full-size : (k ≡ sync → ⊥) → (wa : ℕ) → wa ≡ a → (most most′ x y : ℕ) → Size (encode wk ++ encode wt) most x → Size (encode wa ++ encode v) most′ y
+        → Size (eventBytes (eventOf k t a v)) (most + most′) (x + y)
+    full-size h wa ea most most′ x y z z′ = rw (event-full h, ← ek, ← et, ← ea) (size-append _ _ _ _ _ _ z z′)
+
+    module _ (s : List ℕ) (at : ℕ) (r : Room s at (eventBytes (eventOf k t a v))) where
+      pub event-room : Room s at (encode wk ++ encode wt)
+      event-room = rw (ek, et) (room-first s at (encode k ++ encode t) _ (rw event-bytes at r))
+
+      module _ (u : List ℕ) (q : ℕ) (w : Wrote s at (encode wk ++ encode wt) u q) where
+        pub bare-wrote : k ≡ sync → Wrote s at (eventBytes (eventOf k t a v)) u q
+        bare-wrote h = rw (event-bare h, ← ek, ← et) w
+
+        module _ (h : k ≡ sync → ⊥) (wa : ℕ) (ea : wa ≡ a) where
+          full-room : Room s at ((encode wk ++ encode wt) ++ (encode wa ++ encode v))
+          full-room = rw (ek, et, ea) (rw (event-full h) at r)
+
+          pub rest-room : Room u q (encode wa ++ encode v)
+          rest-room = room-then s at (encode wk ++ encode wt) (encode wa ++ encode v) full-room u q w
+
+          pub full-wrote : (u′ : List ℕ) (q′ : ℕ) → Wrote u q (encode wa ++ encode v) u′ q′ → Wrote s at (eventBytes (eventOf k t a v)) u′ q′
+          full-wrote u′ q′ w′ = rw (event-full h, ← ek, ← et, ← ea) (wrote-then s at (encode wk ++ encode wt) (encode wa ++ encode v) full-room u q w u′ q′ w′)
+
+-- ---- the front
+module _ (e n m : ℕ) where
+  pub front-size : (a b x y : ℕ) → Size (encode e) a x → Size (encode n ++ encode m) b y → Size (frontBytes e n m) (a + b) (x + y)
+  unfolding frontBytes
+  front-size a b x y z z′ = size-append _ _ _ _ _ _ z z′
+
+  module _ (s : List ℕ) (at : ℕ) (r : Room s at (frontBytes e n m)) where
+    pub front-room : Room s at (encode e)
+    unfolding frontBytes
+    front-room = room-first s at (encode e) (encode n ++ encode m) r
+
+    module _ (u : List ℕ) (q : ℕ) (w : Wrote s at (encode e) u q) where
+      pub front-then : Room u q (encode n ++ encode m)
+      unfolding frontBytes
+      front-then = room-then s at (encode e) (encode n ++ encode m) r u q w
+
+      pub front-wrote : (u′ : List ℕ) (q′ : ℕ) → Wrote u q (encode n ++ encode m) u′ q′ → Wrote s at (frontBytes e n m) u′ q′
+      unfolding frontBytes
+      front-wrote u′ q′ w′ = wrote-then s at (encode e) (encode n ++ encode m) r u q w u′ q′ w′
+
+-- ---- more of sums
+module _ (f : ℕ → ℕ) (n total i : ℕ) (s : Summed f n total i) (l : i < n) (x : ℕ) (e : x ≡ f i) (b : f i ≤ n) where
+  pub sum-fits : (room : ℕ) → n ≤ room → room * room < 2 ^ 64 → Fits w64 (total + x)
+  sum-fits room r g =
+      record { fits = lt-of-le-of-lt (le-trans (one-summed f n total i s l x e b .few) (le-trans (mul-le-mul-right n (le-trans (omega arith) r)) (mul-le-mul-left room r))) g }
+
+-- ---- three parts
+pub size-three : (v w z : List ℕ) (a b d x y q : ℕ) → Size v a x → Size w b y → Size z d q → Size (v ++ (w ++ z)) (a + (b + d)) (x + (y + q))
+size-three v w z a b d x y q f g h = size-append v (w ++ z) a (b + d) x (y + q) f (size-append w z b d y q g h)
+
+module _ (s : List ℕ) (at : ℕ) (v w z : List ℕ) (r : Room s at (v ++ (w ++ z))) where
+  pub room-one : Room s at v
+  room-one = room-first s at v (w ++ z) r
+
+  module _ (t : List ℕ) (p : ℕ) (f : Wrote s at v t p) where
+    room-others : Room t p (w ++ z)
+    room-others = room-then s at v (w ++ z) r t p f
+
+    pub room-two : Room t p w
+    room-two = room-first t p w z room-others
+
+    module _ (u : List ℕ) (q : ℕ) (g : Wrote t p w u q) where
+      pub room-three : Room u q z
+      room-three = room-then t p w z room-others u q g
+
+      pub wrote-three : (u′ : List ℕ) (q′ : ℕ) → Wrote u q z u′ q′ → Wrote s at (v ++ (w ++ z)) u′ q′
+      wrote-three u′ q′ h = wrote-then s at v (w ++ z) r t p f u′ q′ (wrote-then t p w z room-others u q g u′ q′ h)
+
+-- ---- the name
+run-bytes : (name : List ℕ) (i : ℕ) → length (run (byteAt name) i) ≡ i
+unfolding run byteAt
+run-bytes name zero = refl
+run-bytes name (suc i) = length-append (run (byteAt name) i) _ ∙ ap (λ (n : ℕ). n + 1) (run-bytes name i) ∙ add-one i
+
+pub name-size : (name : List ℕ) (i a b x : ℕ) → i ≤ b → Size (encode i) a x → Size (nameBytes name i) (a + b) (x + i)
+unfolding nameBytes
+name-size name i a b x l z = size-append _ _ _ _ _ _ z (record { size = sym (run-bytes name i); few = l })
+
+-- ---- a thread's order, n pairs
+module _ (rows : List ℕ) (k p n : ℕ) (e : n ≡ pairs rows p k) where
+  pub order-size : (a b x y : ℕ) → Size (encode n) a x → Size (run (rowAt rows p k) k) b y → Size (orderAt rows k p) (a + b) (x + y)
+  unfolding orderAt
+  order-size a b x y z z′ = rw (← e) (size-append _ _ _ _ _ _ z z′)
+
+  module _ (s : List ℕ) (at : ℕ) (r : Room s at (orderAt rows k p)) where
+    order-both : Room s at (encode n ++ run (rowAt rows p k) k)
+    unfolding orderAt
+    order-both = rw e r
+
+    pub order-room : Room s at (encode n)
+    order-room = room-first s at (encode n) (run (rowAt rows p k) k) order-both
+
+    module _ (u : List ℕ) (q : ℕ) (w : Wrote s at (encode n) u q) where
+      pub order-then : Room u q (run (rowAt rows p k) k)
+      order-then = room-then s at (encode n) (run (rowAt rows p k) k) order-both u q w
+
+      pub order-wrote : (u′ : List ℕ) (q′ : ℕ) → Wrote u q (run (rowAt rows p k) k) u′ q′ → Wrote s at (orderAt rows k p) u′ q′
+      unfolding orderAt
+      order-wrote u′ q′ w′ = rw (← e) (wrote-then s at (encode n) (run (rowAt rows p k) k) order-both u q w u′ q′ w′)
+
+-- ---- an address's stores
+pub few-stores : (k n : ℕ) (f : ℕ → Bool) → k ≤ mostEvents → n ≡ count k f → n ≤ mostEvents
+few-stores k n f h e = omega (arith, count-le k f)
