@@ -1,8 +1,7 @@
 -- A struct that means a case without fault has its numbers within their ranges.
 -- Assumes nothing.
-use Prim.Native.Nat.{ℕ, zero, suc, _+_, _*_, _≤_, _<_}
+use Prim.Native.Nat.{ℕ, _+_, _*_, _≤_, _<_}
 use native.Mathlib.Nat.{zero-add}
-use native.Mathlib.Omega.{arith}
 use mathlib.Core.Path.{_≡_, refl, sym, ap, _∙_}
 use mathlib.Core.Bool.{Bool, true, false, _&&_, _||_, false≢true}
 use mathlib.Core.List.{List, []}
@@ -15,9 +14,8 @@ use Rattle.finite.proofs.Tests.{and-l, and-r}
 use Rattle.finite.proofs.Lists.{table-get, table-length}
 use Rattle.model.specs.Limits.{leastEdition, mostEdition, mostThreads, mostAddresses, mostEvents, mostValue, mostName}
 use Rattle.model.specs.Case.{mostKind, bare}
-use Rattle.model.specs.Rules.{orElse}
 use Rattle.model.specs.Record.{storeTo}
-use Rattle.model.specs.Fault.{every, between, eventGood, firstFault, writeFault, writesFault, fault}
+use Rattle.model.specs.Fault.{every, between, eventGood, writeFault, writesFault, fault}
 use Rattle.case.specs.declared.Case.{Case as Held}
 use Rattle.case.specs.Held.{eventOf, eventsOf, caseOf}
 use Rattle.case.specs.Sound.{Sound}
@@ -30,6 +28,7 @@ and-three false y z h = absurd (false≢true h)
 
 -- what each test of a case without fault found
 record Faultless (c : Held) : Type 0 where
+  edition : between leastEdition mostEdition (c .edition) ≡ true
   threads : between 1 mostThreads (c .threads) ≡ true
   addresses : between 1 mostAddresses (c .addresses) ≡ true
   initials : every (λ v. leb v mostValue) (caseOf c .initials) ≡ true
@@ -49,7 +48,7 @@ faultless c h =
     let h₆ = else-none (every (eventGood (c .threads) (c .addresses)) (caseOf c .events)) 2 _ (h₅ .1) in
     let h₇ = first-none (writesFault (c .events) (storeTo (caseOf c .events)) 0 (caseOf c .writes)) _ (h₆ .1) in
     let h₈ = else-none (leb (length (caseOf c .name)) mostName) 2 0 (h₇ .1) in
-    record { threads = h₂ .0; addresses = h₃ .0; initials = h₄ .0; events = h₅ .0; listing = h₆ .0; writes = h₇ .0; name = h₈ .0 }
+    record { edition = h₁ .0; threads = h₂ .0; addresses = h₃ .0; initials = h₄ .0; events = h₅ .0; listing = h₆ .0; writes = h₇ .0; name = h₈ .0 }
 
 module _ (c : Held) (F : Faultless c) where
   abbrev ranged : ℕ → Bool
@@ -94,6 +93,7 @@ module _ (c : Held) (F : Faultless c) where
   bounds : Sound c
   unfolding caseOf
   bounds = record {
+    edition-most = leb-true _ _ (and-r (leb leastEdition (c .edition)) _ (F .edition));
     threads-least = leb-true _ _ (and-l _ _ (F .threads));
     threads-most = leb-true _ _ (and-r (leb 1 (c .threads)) _ (F .threads));
     addresses-least = leb-true _ _ (and-l _ _ (F .addresses));

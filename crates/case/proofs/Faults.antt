@@ -1,9 +1,9 @@
 -- Laws of `fault` and its parts: what no fault says, and each part over a table.
 -- Assumes nothing.
-use Prim.Native.Nat.{ℕ, zero, suc, _+_, _≤_, _<_}
-use native.Mathlib.Nat.{add-zero, add-suc, suc-add, not-suc-le-zero, le-of-suc-le-suc}
+use Prim.Native.Nat.{ℕ, zero, suc, _+_, _<_}
+use native.Mathlib.Nat.{add-zero, not-suc-le-zero, le-of-suc-le-suc}
 use native.Mathlib.Omega.{arith}
-use mathlib.Core.Path.{_≡_, refl, sym, ap, _∙_}
+use mathlib.Core.Path.{_≡_, refl}
 use mathlib.Core.Bool.{Bool, true, false, not, cond, _&&_, _||_}
 use mathlib.Core.List.{List, [], _∷_, _++_}
 use lib.Dec.{leb, ltb}
@@ -13,7 +13,7 @@ use Rattle.finite.specs.Tests.{all}
 use Rattle.finite.specs.Lists.{table}
 use Rattle.finite.proofs.Tests.{iff, and-l, and-r, and-i, all-get, all-make}
 use Rattle.model.specs.Limits.{mostValue}
-use Rattle.model.specs.Case.{Event, mostKind, bare}
+use Rattle.model.specs.Case.{mostKind, bare}
 use Rattle.model.specs.Rules.{orElse}
 use Rattle.model.specs.Record.{member}
 use Rattle.model.specs.Fault.{every, eventGood, firstFault, writeFault, writesFault}

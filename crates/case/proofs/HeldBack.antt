@@ -1,143 +1,123 @@
 -- The struct that holds a case means that case.
 -- Assumes nothing.
 use Prim.Native.Nat.{ℕ, zero, suc, _+_, _-_, _*_, _%_, _^_, _≤_, _<_}
-use native.Mathlib.Nat.{zero-mul, suc-mul, zero-add, add-assoc, mod-eq-of-lt, not-suc-le-zero, le-of-suc-le-suc}
+use native.Mathlib.Nat.{add-zero, zero-add, zero-mul, not-suc-le-zero, le-of-suc-le-suc, mod-eq-of-lt}
 use native.Mathlib.Omega.{arith}
-use mathlib.Core.Path.{_≡_, refl, ap, sym, _∙_, subst}
+use mathlib.Core.Path.{_≡_, refl, ap, sym, _∙_}
 use mathlib.Core.Bool.{Bool, true, false, cond}
 use mathlib.Core.List.{List, [], _∷_, _++_, map, append-assoc}
-use lib.ListN.{length, getD, replicate, length-map, length-append, length-replicate, List·getD-append, List·getD-map}
+use lib.ListN.{length, getD, length-append, length-replicate, length-map, List·getD-append}
 use lib.Seq.{getD-append-add}
-use Rattle.finite.specs.Tests.{count, tick}
+use Rattle.finite.specs.Tests.{count}
 use Rattle.finite.specs.Lists.{table}
 use Rattle.finite.proofs.Lists.{table-same, as-table}
-use Rattle.model.specs.Limits.{mostThreads, mostAddresses, mostEvents, mostName}
+use Rattle.model.specs.Limits.{mostAddresses, mostEvents, mostName}
 use Rattle.model.specs.Case.{Case, Event, noEvent, bare}
 use Rattle.model.specs.Record.{storeTo}
-use Rattle.laws.proofs.Fits.{All, EventFits, Fits}
-use Rattle.laws.proofs.AllFrom.{all-at, from-at, writes-from}
-use Rattle.laws.proofs.Faultless.{faultless}
-use Rattle.model.specs.Fault.{fault}
+use Rattle.laws.proofs.Fits.{All, EventFits, WritesFit, Fits}
 use Rattle.case.specs.Held.{pad, rowsOf, held, eventOf, eventsOf, caseOf}
-use Rattle.case.specs.Sound.{Sound}
-use Rattle.case.proofs.Bounds.{sound}
+use Rattle.case.proofs.WriteOrders.{count-le}
 
-count-most : (n : ℕ) (p : ℕ → Bool) → count n p ≤ n
-unfolding count
-count-most zero p = omega arith
-count-most (suc n) p = by (p n) (count-most n p)
-  where
-    by : (t : Bool) → count n p ≤ n → count n p + tick t ≤ suc n
-    by true h = omega arith
-    by false h = omega arith
+-- what a case keeps that a struct can hold
+pub record Holds (c : Case) : Type 0 where
+  pub initials : length (c .initials) ≡ c .m
+  pub events : length (c .events) ≡ c .k
+  pub bares : (e : ℕ) → e < c .k → bare (getD (c .events) e noEvent .kind) ≡ true → (getD (c .events) e noEvent .address ≡ 0) × (getD (c .events) e noEvent .value ≡ 0)
+  pub writes : length (c .writes) ≡ c .m
+  pub written : (x : ℕ) → x < c .m → length (getD (c .writes) x []) ≡ count (c .k) (storeTo (c .events) x)
+  pub few : c .k ≤ mostEvents
+  pub orders : length (c .orders) ≡ c .n
+  pub rows : (p : ℕ) → p < c .n → length (getD (c .orders) p []) ≡ c .k
+  pub small : (p a : ℕ) → p < c .n → a < c .k → getD (getD (c .orders) p []) a 0 < 2 ^ c .k
 
--- a table that gives a list's elements is the list
-listed : {A : Type 0} (d : A) (l : List A) (j : ℕ) (f : ℕ → A) → j ≡ length l → ((i : ℕ) → i < j → f i ≡ getD l i d) → table 0 j f ≡ l
-listed d l j f e h = table-same 0 j f (λ i. getD l i d) (λ i _ b. h i (rw zero-add at b)) ∙ sym (as-table l d j (sym e))
+-- ---- lists back from tables
+back : {A : Type 0} (l : List A) (d : A) (j : ℕ) (f : ℕ → A) → length l ≡ j → ((i : ℕ) → i < j → f i ≡ getD l i d) → table 0 j f ≡ l
+back l d j f e h = table-same 0 j f (λ i. getD l i d) (λ i a b. h i (omega arith)) ∙ sym (as-table l d j e)
 
-in-pad : (n : ℕ) (xs : List ℕ) (i : ℕ) → i < length xs → getD (pad n xs) i 0 ≡ getD xs i 0
+in-pad : (n : ℕ) (l : List ℕ) (i : ℕ) → i < length l → getD (pad n l) i 0 ≡ getD l i 0
 unfolding pad
-in-pad n xs i h = List·getD-append xs _ 0 i h
+in-pad n l i h = List·getD-append l _ 0 i h
 
-unpadded : (n : ℕ) (xs : List ℕ) (j : ℕ) → j ≡ length xs → table 0 j (λ i. getD (pad n xs) i 0) ≡ xs
-unpadded n xs j e = listed 0 xs j _ e (λ i h. in-pad n xs i (rw e at h))
-
-pad-length : (n : ℕ) (xs : List ℕ) → length xs ≤ n → length (pad n xs) ≡ n
-unfolding pad
-pad-length n xs h = simp (length-append, length-replicate) (omega arith)
-
--- element i of list p, where the lists lie one behind the other
-row-at : (n : ℕ) (rs : List (List ℕ)) (z : List ℕ) (p i : ℕ) → p < length rs → All (λ r. length r ≤ n) rs → i < length (getD rs p [])
-    → getD (rowsOf n rs ++ z) (p * n + i) 0 ≡ getD (getD rs p []) i 0
-unfolding rowsOf
-row-at n [] z p i h b l = absurd (not-suc-le-zero h)
-row-at n (r ∷ rs) z zero i h b l =
-    let here : 0 * n + i ≡ i = rw zero-mul (zero-add i) in
-    rw (here, append-assoc) (List·getD-append (pad n r) _ 0 i (omega (arith, pad-length n r (b .0), b .0)) ∙ in-pad n r i l)
-row-at n (r ∷ rs) z (suc p) i h b l =
-    let far : suc p * n + i ≡ length (pad n r) + (p * n + i) = rw (pad-length n r (b .0), suc-mul p n) (omega arith) in
-    rw (far, append-assoc) (getD-append-add (pad n r) (rowsOf n rs ++ z) (p * n + i) 0 ∙ row-at n rs z p i (le-of-suc-le-suc h) (b .1) l)
-
--- a field of event e, where the events lie in arrays
-field-at : (f : Event → ℕ) (n : ℕ) (es : List Event) (e : ℕ) → e < length es → getD (pad n (map f es)) e 0 ≡ f (getD es e noEvent)
-field-at f n es e h =
-    in-pad n (map f es) e (rw length-map h) ∙ field es e h
+-- a field of each event
+in-fields : (n : ℕ) (f : Event → ℕ) (es : List Event) (e : ℕ) → e < length es → getD (pad n (map f es)) e 0 ≡ f (getD es e noEvent)
+in-fields n f es e h = in-pad n (map f es) e (rw (length-map es f) h) ∙ at es e h
   where
-    field : (es : List Event) (e : ℕ) → e < length es → getD (map f es) e 0 ≡ f (getD es e noEvent)
-    field [] e h = absurd (not-suc-le-zero h)
-    field (x ∷ es) zero h = refl
-    field (x ∷ es) (suc e) h = field es e (le-of-suc-le-suc h)
+    at : (es : List Event) (e : ℕ) → e < length es → getD (map f es) e 0 ≡ f (getD es e noEvent)
+    at [] e h = absurd (not-suc-le-zero h)
+    at (x ∷ es) zero h = refl
+    at (x ∷ es) (suc e) h = at es e (le-of-suc-le-suc h)
 
--- a bare event has no address and no value
-bare-back : (v : Event) → (bare (v .kind) ≡ true → v .address ≡ 0) → (bare (v .kind) ≡ true → v .value ≡ 0) → eventOf (v .kind) (v .thread) (v .address) (v .value) ≡ v
+pub length-pad : (n : ℕ) (l : List ℕ) → length l ≤ n → length (pad n l) ≡ n
+unfolding pad
+length-pad n l h = simp (length-append, length-replicate) (omega arith)
+
+-- row x of rows that have n places each
+in-rows : (n : ℕ) (rs : List (List ℕ)) (z : List ℕ) (x i : ℕ) → x < length rs → ((y : ℕ) → y < length rs → length (getD rs y []) ≤ n) → i < length (getD rs x [])
+    → getD (rowsOf n rs ++ z) (x * n + i) 0 ≡ getD (getD rs x []) i 0
+unfolding rowsOf pad
+in-rows n [] z x i h b l = absurd (not-suc-le-zero h)
+in-rows n (r ∷ rs) z zero i h b l =
+    let e : 0 * n + i ≡ i = rw (zero-mul n) (zero-add i) in
+    rw (e, append-assoc (pad n r) (rowsOf n rs) z, append-assoc r) (List·getD-append r _ 0 i l)
+in-rows n (r ∷ rs) z (suc x) i h b l =
+    let m : length (pad n r) ≡ n = length-pad n r (b 0 (omega arith)) in
+    let far : suc x * n + i ≡ length (pad n r) + (x * n + i) = rw m (omega arith) in
+    ap (λ (j : ℕ). getD (rowsOf n (r ∷ rs) ++ z) j 0) far
+    ∙ ap (λ (k : List ℕ). getD k (length (pad n r) + (x * n + i)) 0) (append-assoc (pad n r) (rowsOf n rs) z)
+    ∙ getD-append-add (pad n r) (rowsOf n rs ++ z) (x * n + i) 0
+    ∙ in-rows n rs z x i (le-of-suc-le-suc h) (λ y a. b (suc y) (omega arith)) l
+
+-- ---- an event
+event-again : (v : Event) → (bare (v .kind) ≡ true → (v .address ≡ 0) × (v .value ≡ 0)) → eventOf (v .kind) (v .thread) (v .address) (v .value) ≡ v
 unfolding eventOf
-bare-back v a w = by (bare (v .kind)) a w
+event-again v s = by (bare (v .kind)) s
   where
-    by : (t : Bool) → (t ≡ true → v .address ≡ 0) → (t ≡ true → v .value ≡ 0)
+    by : (t : Bool) → (t ≡ true → (v .address ≡ 0) × (v .value ≡ 0))
         → cond t (record { kind = v .kind; thread = v .thread; address = 0; value = 0 }) (record { kind = v .kind; thread = v .thread; address = v .address; value = v .value }) ≡ v
-    by true a w = λ i. record { kind = v .kind; thread = v .thread; address = sym (a refl) i; value = sym (w refl) i }
-    by false a w = refl
+    by true s = λ i. record { kind = v .kind; thread = v .thread; address = sym (s refl .0) i; value = sym (s refl .1) i }
+    by false s = refl
 
-all-from : {A : Type 0} (P : A → Type 0) (l : List A) (d : A) → ((i : ℕ) → i < length l → P (getD l i d)) → All P l
-all-from P [] d h = tt
-all-from P (a ∷ l) d h = (h 0 (omega arith), all-from P l d (λ i b. h (suc i) (omega arith)))
+module _ (c : Case) (H : Holds c) where
+  events-back : eventsOf (held c .events) (held c .kind) (held c .thread) (held c .address) (held c .value) ≡ c .events
+  unfolding eventsOf held
+  events-back =
+      back (c .events) noEvent (c .k) _ (H .events)
+      (λ e h.
+      let l : e < length (c .events) = omega (arith, H .events) in
+      rw (in-fields mostEvents (λ x. x .kind) (c .events) e l, in-fields mostEvents (λ x. x .thread) (c .events) e l, in-fields mostEvents (λ x. x .address) (c .events) e l, in-fields mostEvents (λ x. x .value) (c .events) e l)
+      (event-again (getD (c .events) e noEvent) (H .bares e h)))
 
-module _ (c : Case) (F : Fits c) where
-  event-back : (e : ℕ) → e < c .k
-      → eventOf (getD (held c .kind) e 0) (getD (held c .thread) e 0) (getD (held c .address) e 0) (getD (held c .value) e 0) ≡ getD (c .events) e noEvent
+  initials-back : table 0 (c .m) (λ x. getD (held c .initial) x 0) ≡ c .initials
   unfolding held
-  event-back e h =
-      let l : e < length (c .events) = rw (← F .k) h in
-      let v : Event = getD (c .events) e noEvent in
-      let fits : EventFits (c .n) (c .m) v = all-at _ (c .events) (F .events) e noEvent l in
-      rw (
-        field-at (λ x. x .kind) mostEvents (c .events) e l,
-        field-at (λ x. x .thread) mostEvents (c .events) e l,
-        field-at (λ x. x .address) mostEvents (c .events) e l,
-        field-at (λ x. x .value) mostEvents (c .events) e l,
-      )
-      (bare-back v (fits .no-address) (fits .no-value))
+  initials-back = back (c .initials) 0 (c .m) _ (H .initials) (λ x h. in-pad mostAddresses (c .initials) x (omega (arith, H .initials)))
 
-  events-back : eventsOf (c .k) (held c .kind) (held c .thread) (held c .address) (held c .value) ≡ c .events
-  unfolding eventsOf
-  events-back = listed noEvent (c .events) (c .k) _ (F .k) event-back
+  name-back : table 0 (length (c .name)) (λ i. getD (held c .name) i 0) ≡ c .name
+  unfolding held
+  name-back = back (c .name) 0 (length (c .name)) _ refl (λ i h. in-pad mostName (c .name) i h)
 
-  -- each write order is as long as there are stores to its address
-  written : (x : ℕ) → x < c .m → count (c .k) (storeTo (c .events) x) ≡ length (getD (c .writes) x [])
-  written x h =
-      let l : x < length (c .writes) = rw (← F .m′) h in
-      sym (rw zero-add at (from-at _ 0 (c .writes) (writes-from (c .k) (storeTo (c .events)) [] (c .writes) (F .writes)) x [] l .0))
-
-  ordered : (p : ℕ) → p < c .n → (length (getD (c .orders) p []) ≡ c .k) × All (λ r. r < 2 ^ (c .k)) (getD (c .orders) p [])
-  ordered p h = all-at _ (c .orders) (F .orders) p [] (rw (← F .n) h)
-
-  writes-back :
-      table 0 (c .m) (λ x. table 0 (count (c .k) (storeTo (c .events) x)) (λ i. getD (held c .writes) (x * mostEvents + i) 0)) ≡ c .writes
+  write-back : (x : ℕ) → x < c .m → table 0 (count (c .k) (storeTo (c .events) x)) (λ i. getD (held c .writes) (x * mostEvents + i) 0) ≡ getD (c .writes) x []
   unfolding held pad
-  writes-back =
-      listed [] (c .writes) (c .m) _ (F .m′)
-      (λ x h.
-      listed 0 (getD (c .writes) x []) _ _ (written x h)
-      (λ i l. row-at mostEvents (c .writes) _ x i (rw (← F .m′) h) short (rw (written x h) at l)))
-    where
-      short : All (λ r. length r ≤ mostEvents) (c .writes)
-      short =
-          all-from _ (c .writes) []
-          (λ x h. omega (arith, written x (rw (F .m′) h), count-most (c .k) (storeTo (c .events) x), F .k-most))
+  write-back x h =
+      back (getD (c .writes) x []) 0 _ _ (H .written x h)
+      (λ i l. in-rows mostEvents (c .writes) _ x i (omega (arith, H .writes))
+      (λ y b. omega (arith, H .written y (omega (arith, H .writes)), count-le (c .k) (storeTo (c .events) y), H .few)) (omega (arith, H .written x h)))
 
-  orders-back : table 0 (c .n) (λ p. table 0 (c .k) (λ a. getD (held c .rows) (p * mostEvents + a) 0 % 2 ^ c .k)) ≡ c .orders
+  row-back : (p : ℕ) → p < c .n → table 0 (c .k) (λ a. getD (held c .rows) (p * mostEvents + a) 0 % 2 ^ c .k) ≡ getD (c .orders) p []
   unfolding held pad
-  orders-back =
-      listed [] (c .orders) (c .n) _ (F .n)
-      (λ p h.
-      listed 0 (getD (c .orders) p []) (c .k) _ (sym (ordered p h .0))
+  row-back p h =
+      back (getD (c .orders) p []) 0 (c .k) _ (H .rows p h)
       (λ a l.
-      let in-row : a < length (getD (c .orders) p []) = rw (ordered p h .0) l in
-      ap (λ (row : ℕ). row % 2 ^ c .k) (row-at mostEvents (c .orders) _ p a (rw (← F .n) h) short in-row)
-      ∙ mod-eq-of-lt (all-at _ (getD (c .orders) p []) (ordered p h .1) a 0 in-row)))
-    where
-      short : All (λ r. length r ≤ mostEvents) (c .orders)
-      short = all-from _ (c .orders) [] (λ p h. omega (arith, ordered p (rw (F .n) h) .0, F .k-most))
+      ap (λ (r : ℕ). r % 2 ^ c .k) (in-rows mostEvents (c .orders) _ p a (omega (arith, H .orders))
+      (λ y b. omega (arith, H .rows y (omega (arith, H .orders)), H .few)) (omega (arith, H .rows p h)))
+      ∙ mod-eq-of-lt (H .small p a h l))
+
+  writes-back : caseOf (held c) .writes ≡ c .writes
+  unfolding caseOf
+  writes-back = rw events-back (unfold held in back (c .writes) [] (c .m) _ (H .writes) (λ x h. write-back x h))
+
+  orders-back : caseOf (held c) .orders ≡ c .orders
+  unfolding caseOf held
+  orders-back = back (c .orders) [] (c .n) _ (H .orders) (λ p h. row-back p h)
 
   pub held-back : caseOf (held c) ≡ c
   unfolding caseOf held
@@ -146,13 +126,39 @@ module _ (c : Case) (F : Fits c) where
     n = c .n;
     m = c .m;
     k = c .k;
-    initials = unpadded mostAddresses (c .initials) (c .m) (F .m) i;
+    initials = initials-back i;
     events = events-back i;
-    writes = (ap (λ (es : List Event). table 0 (c .m) (λ x. table 0 (count (c .k) (storeTo es x)) (λ i. getD (held c .writes) (x * mostEvents + i) 0))) events-back ∙ writes-back) i;
+    writes = writes-back i;
     orders = orders-back i;
-    name = unpadded mostName (c .name) (length (c .name)) refl i;
+    name = name-back i;
   }
 
-  -- and its numbers are within their ranges
-  pub held-sound : Sound (held c)
-  held-sound = sound (held c) (ap fault held-back ∙ faultless c F)
+-- ---- a case that keeps the limits
+all-at : {A : Type 0} (P : A → Type 0) (l : List A) (d : A) → All P l → (i : ℕ) → i < length l → P (getD l i d)
+all-at P [] d h i b = absurd (not-suc-le-zero b)
+all-at P (a ∷ l) d h zero b = h .0
+all-at P (a ∷ l) d h (suc i) b = all-at P l d (h .1) i (le-of-suc-le-suc b)
+
+written-at : (k : ℕ) (mine : ℕ → ℕ → Bool) (before ws : List (List ℕ)) → WritesFit k mine before ws
+    → (x : ℕ) → x < length ws → length (getD ws x []) ≡ count k (mine (length before + x))
+written-at k mine before [] h x b = absurd (not-suc-le-zero b)
+written-at k mine before (w ∷ ws) h zero b = rw (add-zero (length before)) (h .0)
+written-at k mine before (w ∷ ws) h (suc x) b =
+    let e : length (before ++ (w ∷ [])) + x ≡ length before + suc x = rw (length-append before (w ∷ [])) (omega arith) in
+    written-at k mine (before ++ (w ∷ [])) ws (h .2) x (le-of-suc-le-suc b) ∙ ap (λ (y : ℕ). count k (mine y)) e
+
+pub holds : (c : Case) → Fits c → Holds c
+holds c F = record {
+  initials = sym (F .m);
+  events = sym (F .k);
+  bares = λ e h t. let f = all-at (EventFits (c .n) (c .m)) (c .events) noEvent (F .events) e (omega (arith, F .k)) in (f .no-address t, f .no-value t);
+  writes = sym (F .m′);
+  written = λ x h. written-at (c .k) (storeTo (c .events)) [] (c .writes) (F .writes) x (omega (arith, F .m′)) ∙ ap (λ (y : ℕ). count (c .k) (storeTo (c .events) y)) (zero-add x);
+  few = F .k-most;
+  orders = sym (F .n);
+  rows = λ p h. all-at _ (c .orders) [] (F .orders) p (omega (arith, F .n)) .0;
+  small = λ p a h l. let f = all-at _ (c .orders) [] (F .orders) p (omega (arith, F .n)) in all-at _ (getD (c .orders) p []) 0 (f .1) a (omega (arith, f .0));
+}
+
+pub fits-back : (c : Case) → Fits c → caseOf (held c) ≡ c
+fits-back c F = held-back c (holds c F)

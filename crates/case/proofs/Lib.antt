@@ -5,3 +5,6 @@ pub mod WriteOrders
 pub mod Sizes
 pub mod Means
 pub mod HeldBack
+pub mod Masks
+pub mod SameCase
+pub mod Shape

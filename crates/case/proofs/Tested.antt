@@ -1,17 +1,17 @@
 -- The ways through the tests of a case's head, initial values and events, and the turns of their loops.
 -- Assumes nothing.
-use Prim.Native.Nat.{ℕ, zero, suc, _+_, _≤_, _<_}
+use Prim.Native.Nat.{ℕ, _+_, _≤_, _<_}
 use native.Mathlib.Omega.{arith}
-use mathlib.Core.Path.{_≡_, refl, sym, ap, _∙_}
-use mathlib.Core.Bool.{Bool, true, false, not, _&&_, _||_}
+use mathlib.Core.Path.{_≡_, sym}
+use mathlib.Core.Bool.{Bool, true, false, not, _&&_}
 use mathlib.Core.List.{List}
-use lib.Dec.{eqb, leb, ltb}
+use lib.Dec.{leb}
 use lib.ListN.{getD}
-use borrow.Author.Tests.{le-leb, lt-leb, lt-ltb, le-ltb, eq-eqb, ne-eqb}
+use borrow.Author.Tests.{le-leb, lt-leb, lt-ltb, le-ltb}
 use Rattle.finite.specs.Tests.{all}
 use Rattle.finite.proofs.Tests.{all-none, all-more, all-not, loop-fails, loop-goes-on, loop-ends}
 use Rattle.model.specs.Limits.{mostValue}
-use Rattle.model.specs.Case.{sync, mostKind, bare}
+use Rattle.model.specs.Case.{mostKind, bare}
 use Rattle.model.specs.Fault.{between, eventGood}
 use Rattle.case.specs.Held.{eventOf}
 use Rattle.case.proofs.Faults.{event-good}
@@ -44,22 +44,22 @@ module _ (n m k t a v : ℕ) where
     pub no-thread : n ≤ w → false ≡ eventGood n m (eventOf k t a v)
     no-thread ht = let h : n ≤ t = omega arith in rw (event-good, le-leb k mostKind hk, le-ltb t n h)
 
-    module _ (ht : w < n) where
-      pub good-bare : k ≡ sync → true ≡ eventGood n m (eventOf k t a v)
-      good-bare s = let h : t < n = omega arith in rw (event-good, le-leb k mostKind hk, lt-ltb t n h, eq-eqb k sync s)
+    module _ (ht : w < n) (b : Bool) (eb : b ≡ bare k) where
+      pub good-bare : b ≡ true → true ≡ eventGood n m (eventOf k t a v)
+      good-bare tb = let h : t < n = omega arith in rw (event-good, le-leb k mostKind hk, lt-ltb t n h, ← eb, tb)
 
-      module _ (s : k ≡ sync → ⊥) (u : ℕ) (eu : u ≡ a) where
+      module _ (tb : b ≡ false) (u : ℕ) (eu : u ≡ a) where
         pub no-address : m ≤ u → false ≡ eventGood n m (eventOf k t a v)
         no-address ha =
             let h : t < n = omega arith in
             let g : m ≤ a = omega arith in
-            rw (event-good, le-leb k mostKind hk, lt-ltb t n h, ne-eqb k sync s, le-ltb a m g)
+            rw (event-good, le-leb k mostKind hk, lt-ltb t n h, ← eb, tb, le-ltb a m g)
 
         pub by-value : u < m → leb v mostValue ≡ eventGood n m (eventOf k t a v)
         by-value ha =
             let h : t < n = omega arith in
             let g : a < m = omega arith in
-            rw (event-good, le-leb k mostKind hk, lt-ltb t n h, ne-eqb k sync s, lt-ltb a m g)
+            rw (event-good, le-leb k mostKind hk, lt-ltb t n h, ← eb, tb, lt-ltb a m g)
 
 -- ---- the initial values: those below x of n are low
 module _ (l : List ℕ) (n : ℕ) where

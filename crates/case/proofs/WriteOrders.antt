@@ -4,9 +4,9 @@ use Prim.Native.Nat.{ℕ, zero, suc, _+_, _-_, _*_, _^_, _≤_, _<_}
 use native.Mathlib.Omega.{arith}
 use native.Mathlib.Numerals.{add-one}
 use mathlib.Core.Path.{_≡_, refl, sym, ap, _∙_}
-use mathlib.Core.Bool.{Bool, true, false, not, cond, _&&_, _||_}
+use mathlib.Core.Bool.{Bool, true, false, not, _&&_, _||_}
 use mathlib.Core.List.{List, [], _∷_, _++_}
-use lib.Dec.{eqb, leb, ltb}
+use lib.Dec.{eqb, ltb}
 use lib.Bits.{bitOr}
 use lib.ListN.{getD}
 use borrow.Author.Tests.{lt-ltb, le-ltb, eq-eqb, ne-eqb, not-true, not-false}
@@ -15,7 +15,7 @@ use Rattle.finite.specs.Lists.{table}
 use Rattle.finite.proofs.Tests.{or-false}
 use Rattle.bits.specs.Bit.{bit}
 use Rattle.bits.proofs.Bits.{bit-zero, bit-with}
-use Rattle.model.specs.Limits.{mostAddresses, mostEvents}
+use Rattle.model.specs.Limits.{mostEvents}
 use Rattle.model.specs.Case.{store}
 use Rattle.model.specs.Rules.{orElse}
 use Rattle.model.specs.Record.{member}

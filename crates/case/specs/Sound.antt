@@ -5,13 +5,14 @@ use mathlib.Core.Path.{_≡_}
 use mathlib.Core.Bool.{Bool, false}
 use lib.ListN.{getD}
 use Rattle.finite.specs.Tests.{count}
-use Rattle.model.specs.Limits.{mostThreads, mostAddresses, mostEvents, mostValue, mostName}
+use Rattle.model.specs.Limits.{mostEdition, mostThreads, mostAddresses, mostEvents, mostValue, mostName}
 use Rattle.model.specs.Case.{Case, mostKind, bare}
 use Rattle.model.specs.Record.{storeTo}
 use Rattle.case.specs.declared.Case.{Case as Held}
 use Rattle.case.specs.Held.{caseOf}
 
 pub record Sound (c : Held) : Type 0 where
+  pub edition-most : c .edition ≤ mostEdition
   pub threads-least : 1 ≤ c .threads
   pub threads-most : c .threads ≤ mostThreads
   pub addresses-least : 1 ≤ c .addresses

@@ -2,13 +2,14 @@
 ghost use mathlib.Core.Path.{_≡_};
 ghost use mathlib.Core.Bool.{_&&_, not};
 ghost use mathlib.Core.List.{[]};
-ghost use Prim.Native.Nat.{ℕ, _+_, _*_, _≤_, _<_};
+ghost use Prim.Native.Nat.{_+_, _*_, _≤_, _<_};
 ghost use lib.Dec.{leb};
 ghost use lib.ListN.{getD};
 ghost use Rattle.finite.specs.Tests.{all, count};
 ghost use Rattle.finite.specs.Lists.{table};
 ghost use Rattle.bits.specs.Bit.{bit};
 ghost use Rattle.model.specs.Limits.{leastEdition, mostEdition, mostThreads, mostAddresses, mostEvents, mostValue};
+ghost use Rattle.model.specs.Case.{bare as bareKind};
 ghost use Rattle.model.specs.Fault.{between, eventGood, writeFault, writesFault, fault as faultOf};
 ghost use Rattle.model.specs.Bound.{mostBytes};
 ghost use Rattle.case.specs.Held.{eventOf, caseOf, emptyCase};
@@ -101,6 +102,7 @@ fn within(v: usize, least: usize, most: usize) -> bool
     false
 }
 
+// Whether edition, threads and addresses are in their ranges.
 fn head_good(edition: usize, threads: usize, addresses: usize) -> bool
     ensures { λ r. ⌜ r ≡ (between leastEdition mostEdition edition && (between 1 mostThreads threads && between 1 mostAddresses addresses)) ⌝ }
 {
@@ -112,6 +114,7 @@ fn head_good(edition: usize, threads: usize, addresses: usize) -> bool
     false
 }
 
+// Whether the initial values are in their range.
 fn initials_good(initial: &[u32; Case::MOST_ADDRESSES], addresses: usize) -> bool
     requires { ⌜ addresses ≤ mostAddresses ⌝ }
     ensures { λ r. ⌜ r ≡ all addresses (λ x. leb (getD (now (initial .entry)) x 0) mostValue) ⌝ }
@@ -132,6 +135,13 @@ fn wide(x: u8) -> usize
     x as usize
 }
 
+// Whether events of the kind have neither address nor value.
+pub fn bare(kind: u8) -> bool
+    ensures { λ r. ⌜ r ≡ bareKind kind ⌝ }
+{
+    kind == Case::SYNC
+}
+
 // Whether an event of a case with so many threads and addresses has its numbers in their ranges.
 fn event_good(
     kind: u8,
@@ -145,7 +155,7 @@ fn event_good(
 {
     if kind <= Case::MOST_KIND {
         if wide(thread) < threads {
-            if kind == Case::SYNC {
+            if bare(kind) {
                 return true;
             }
             if wide(address) < addresses {
@@ -156,6 +166,7 @@ fn event_good(
     false
 }
 
+// Whether the first k events are good.
 fn events_good<'a>(
     kinds: &'a [u8; Case::MOST_EVENTS],
     owners: &'a [u8; Case::MOST_EVENTS],
@@ -301,7 +312,8 @@ fn writes_fault<'a>(
     0
 }
 
-// The refusal of a case that is handed without bytes, 3 or 4, as the reader would give it for the first bad field; 0 if there is none.
+// The refusal of a case that is handed without bytes: 3 or 4, as the reader would give it for the first bad field; 0 if there is
+// none.
 pub fn fault(c: Case) -> u8
     ensures { λ r. ⌜ r ≡ faultOf (caseOf c) ⌝ }
 {

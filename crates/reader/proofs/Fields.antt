@@ -1,14 +1,9 @@
 -- The ways through reading a record's head, its listing and its rest.
 -- Assumes nothing.
-use Prim.Native.Nat.{ℕ, _+_, _-_, _*_, _≤_}
+use Prim.Native.Nat.{ℕ, _-_, _*_, _≤_}
 use mathlib.Core.Path.{_≡_, refl, ap, sym, _∙_}
-use mathlib.Core.Bool.{Bool, true, false, cond}
 use mathlib.Core.List.{List, []}
-use native.Mathlib.Omega.{arith}
-use lib.Dec.{leb}
-use lib.ListN.{length, take, drop, length-drop}
-use lib.Seq.{length-take-le}
-use borrow.Author.Tests.{leb-true}
+use lib.ListN.{length}
 use Rattle.number.specs.Number.{readNumber}
 use Rattle.number.specs.Reader.{Out, stop, next, upTo, within, turns, times, numberOut, refusalOf}
 use Rattle.number.specs.declared.Refusal.{Refusal}
@@ -22,6 +17,7 @@ use Rattle.reader.specs.declared.HeadRead.the-variants as the
 use Rattle.reader.specs.declared.CountRead.the-variants as counted
 use Rattle.reader.specs.declared.PlaceRead.{PlaceRead}
 use Rattle.reader.specs.declared.PlaceRead.the-variants as place
+use Rattle.reader.proofs.Forward.{gone, forward-bytes}
 use Rattle.reader.proofs.Filling.{Done, stop-of, next-of}
 
 pub up-to-most : (s : List ℕ) (at hi v p : ℕ) (r : NumberRead) → r ≡ Number v p → r ≡ readNumber s at hi → v ≤ hi
@@ -100,16 +96,6 @@ module _ (s : List ℕ) (at n m : ℕ) (r₁ : PlaceRead) (initial : List ℕ) (
       whole-listing p₃ u = listing-of p₃ (next-of (Events ks ts as′ vs) (times k (event n m) s p₂) r₃ p₃ g₃ u)
 
 -- write orders, orders and name
-bytes-size : (i : ℕ) (s : List ℕ) (at : ℕ) (w : List ℕ) (p : ℕ) → bytes i s at ≡ next w p → length w ≡ i
-unfolding bytes
-bytes-size i s at w p e = go (leb (at + i) (length s)) refl e
-  where
-    go : (t : Bool) → leb (at + i) (length s) ≡ t → cond t (next (take i (drop at s)) (at + i)) (stop 1 at) ≡ next w p → length w ≡ i
-    go true l e =
-        let z : take i (drop at s) ≡ w = cc in
-        sym (ap length z) ∙ length-take-le i (drop at s) (simp length-drop (omega (arith, leb-true (at + i) (length s) l)))
-    go false l e = let z : _≡_ {A = ℕ} 0 1 = cc in absurd (omega arith)
-
 module _ (s : List ℕ) (at n m k : ℕ) (ks as′ : List ℕ) (r₁ : PlaceRead) (ws : List ℕ)
     (g₁ : Stores (Tabled (mostAddresses * mostEvents) ws) (turns m (nextWriteOrder k (storeAt ks as′)) [] s at) r₁) where
   pub no-writes : (S : Rest → Type 0) (f g : Refusal) → r₁ ≡ place.Refused f → g ≡ refusedAt r₁ → StoresCounted (λ t. length (t .name)) S (rest n m k (storeAt ks as′) s at) (counted.Refused g)
@@ -147,7 +133,7 @@ module _ (s : List ℕ) (at n m k : ℕ) (ks as′ : List ℕ) (r₁ : PlaceRead
             → StoresCounted (λ t. length (t .name)) (RestStored ws rows name) (rest n m k (storeAt ks as′) s at) (counted.Count i p₄)
         unfolding rest
         rest-of p₄ d = rw (w₁ .is, w₂ .is, w₃, d .is)
-            (ap (λ (x : ℕ). counted.Count x p₄) (sym (bytes-size i s p₃ (d .what) p₄ (d .is))), record { writes = w₁ .stored; orders = w₂ .stored; name = d .stored })
+            (ap (λ (x : ℕ). counted.Count x p₄) (sym (gone (forward-bytes i) p₃ (d .what) p₄ (d .is) .holds .0)), record { writes = w₁ .stored; orders = w₂ .stored; name = d .stored })
 
         pub whole-rest : (p₄ : ℕ) → r₄ ≡ place.Next p₄ → StoresCounted (λ t. length (t .name)) (RestStored ws rows name) (rest n m k (storeAt ks as′) s at) (counted.Count i p₄)
         whole-rest p₄ u = rest-of p₄ (next-of (Padded mostName name) (bytes i s p₃) r₄ p₄ g₄ u)

@@ -32,6 +32,12 @@ pub record Forward {A : Type 0} (s : List ℕ) (r : Reader A) (Q : A → ℕ →
 abbrev pub Any : {A : Type 0} → A → ℕ → Type 0
 Any a p = Unit {0}
 
+-- the bytes w end at p
+pub record AtEnd (s w : List ℕ) (p : ℕ) : Type 0 where
+  pub long : length w ≤ p
+  pub within : p ≤ length s
+  pub bytes : take (length w) (drop (p - length w) s) ≡ w
+
 pub gone : {A : Type 0} {s : List ℕ} {r : Reader A} {Q : A → ℕ → Type 0} → Forward s r Q → (at : ℕ) (a : A) (p : ℕ) → r s at ≡ next a p → Goes Q at a p
 gone {A} {s} {r} {Q} h at a p e = rw e at (h .from at)
 
@@ -138,16 +144,17 @@ module _ {s : List ℕ} where
       forward-bind (forward-up-to (k * k)) (λ i p hi.
       forward-last _ Any (forward-turns (nextPair k) (λ o. forward-last _ Any (forward-rising-pair k (o .least)) (λ q p hq. tt)) i (noPairs k)) (λ o p ho. tt))
 
-  forward-bytes : (i : ℕ) → Forward s (bytes i) (λ w p. (length w ≤ p) × (p ≤ length s))
+  pub forward-bytes : (i : ℕ) → Forward s (bytes i) (λ w p. (length w ≡ i) × AtEnd s w p)
   unfolding bytes
   forward-bytes i = record { from = λ at. go at (leb (at + i) (length s)) refl }
     where
-      go : (at : ℕ) (t : Bool) → leb (at + i) (length s) ≡ t → Outcome (λ w p. (length w ≤ p) × (p ≤ length s)) at (cond t (next (take i (drop at s)) (at + i)) (stop 1 at))
+      go : (at : ℕ) (t : Bool) → leb (at + i) (length s) ≡ t → Outcome (λ w p. (length w ≡ i) × AtEnd s w p) at (cond t (next (take i (drop at s)) (at + i)) (stop 1 at))
       go at false e = tt
       go at true e =
           let l : at + i ≤ length s = leb-true (at + i) (length s) e in
           let size : length (take i (drop at s)) ≡ i = length-take-le i (drop at s) (simp length-drop (omega arith)) in
-          record { on = omega arith; holds = (omega arith, l) }
+          let back : at + i - i ≡ at = omega arith in
+          record { on = omega arith; holds = (size, record { long = omega arith; within = l; bytes = rw (size, back) }) }
 
   pub forward-head : Forward s head (λ h p. Counts (h .n) (h .m))
   unfolding head
@@ -165,17 +172,17 @@ module _ {s : List ℕ} where
       forward-last _ Any (forward-times (forward-event n m) k) (λ es p _. tt)))
 
   -- the name stands at the end
-  pub forward-rest : (n m k : ℕ) (mine : ℕ → ℕ → Bool) → Forward s (rest n m k mine) (λ t p. (length (t .name) ≤ p) × (p ≤ length s))
+  pub forward-rest : (n m k : ℕ) (mine : ℕ → ℕ → Bool) → Forward s (rest n m k mine) (λ t p. AtEnd s (t .name) p)
   unfolding rest
   forward-rest n m k mine =
       forward-bind (forward-turns (nextWriteOrder k mine) (λ ws. forward-another (forward-write-order k (mine (length ws))) ws) m []) (λ writes p _.
       forward-bind (forward-times (forward-order k) n) (λ orders p _.
       forward-bind (forward-up-to mostName) (λ i p _.
-      forward-last _ (λ t p. (length (t .name) ≤ p) × (p ≤ length s)) (forward-bytes i) (λ name p h. h))))
+      forward-last _ (λ t p. AtEnd s (t .name) p) (forward-bytes i) (λ name p h. h .1))))
 
-  pub forward-case : Forward s case (λ c p. (length (c .name) ≤ p) × (p ≤ length s))
+  pub forward-case : Forward s case (λ c p. AtEnd s (c .name) p)
   unfolding case
   forward-case =
       forward-bind forward-head (λ h p _.
       forward-bind (forward-listing (h .n) (h .m)) (λ l p _.
-      forward-last _ (λ c p. (length (c .name) ≤ p) × (p ≤ length s)) (forward-rest (h .n) (h .m) (l .k) (storeTo (l .events))) (λ t p h. h)))
+      forward-last _ (λ c p. AtEnd s (c .name) p) (forward-rest (h .n) (h .m) (l .k) (storeTo (l .events))) (λ t p h. h)))

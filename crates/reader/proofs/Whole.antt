@@ -22,7 +22,7 @@ use Rattle.reader.specs.declared.HeadRead.{HeadRead}
 use Rattle.reader.specs.declared.HeadRead.the-variants as the
 use Rattle.reader.specs.declared.CountRead.{CountRead}
 use Rattle.reader.specs.declared.CountRead.the-variants as counted
-use Rattle.reader.proofs.Forward.{Outcome, gone, forward-head, forward-listing, forward-rest, forward-case}
+use Rattle.reader.proofs.Forward.{AtEnd, Outcome, gone, forward-head, forward-listing, forward-rest, forward-case}
 
 pub no-events : Events (replicate mostEvents 0) (replicate mostEvents 0) (replicate mostEvents 0) (replicate mostEvents 0) []
 unfolding pad
@@ -226,32 +226,31 @@ from-start s r e = e ∙ go (case s 0)
     go (stop x p) = refl
     go (next c i) = let z : i - 0 ≡ i = omega arith in rw z
 
--- a reading's name: within the record, which is within the bytes, and where the model has it
-pub record Named (s : List ℕ) (o : Out Case) (r : Reading) : Type 0 where
-  pub in-record : r .case .namelength ≤ r .length
-  pub in-bytes : r .length ≤ length s
+-- a reading's name is within the record, and where the model has it
+record Named (o : Out Case) (r : Reading) : Type 0 where
+  pub within : r .case .namelength ≤ r .length
   pub part-is : _≡_ {A = NamePart} (record { at = r .length - r .case .namelength; length = r .case .namelength }) (partOf (namePart o))
 
-named-of : (s : List ℕ) (o : Out Case) → Outcome (λ c p. (length (c .name) ≤ p) × (p ≤ length s)) 0 o → Named s o (readingOf o)
+named-of : (s : List ℕ) (o : Out Case) → Outcome (λ c p. AtEnd s (c .name) p) 0 o → Named o (readingOf o)
 unfolding readingOf held emptyCase
-named-of s (stop x p) h = record { in-record = omega arith; in-bytes = omega arith; part-is = refl }
-named-of s (next c i) h = record { in-record = h .holds .0; in-bytes = h .holds .1; part-is = refl }
-
-named : (s : List ℕ) (r : Reading) → r ≡ readingOf (read s) → Named s (read s) r
-unfolding read
-named s r e = rw e (named-of s (case s 0) (forward-case .from 0))
+named-of s (stop x p) h = record { within = omega arith; part-is = refl }
+named-of s (next c i) h = record { within = h .holds .long; part-is = refl }
 
 module _ (s : List ℕ) (r : Reading) (e : r ≡ readingOf (read s)) where
+  named : Named (read s) r
+  unfolding read
+  named = rw e (named-of s (case s 0) (forward-case .from 0))
+
   pub name-in-record : r .case .namelength ≤ r .length
-  name-in-record = named s r e .in-record
+  name-in-record = named .within
 
   pub name-part-is : _≡_ {A = NamePart} (record { at = r .length - r .case .namelength; length = r .case .namelength }) (partOf (namePart (read s)))
-  name-part-is = named s r e .part-is
+  name-part-is = named .part-is
 
 -- the part's bounds
-part-in-of : (s : List ℕ) (o : Out Case) → Outcome (λ c p. (length (c .name) ≤ p) × (p ≤ length s)) 0 o → namePart o .at + namePart o .length ≤ length s
+part-in-of : (s : List ℕ) (o : Out Case) → Outcome (λ c p. AtEnd s (c .name) p) 0 o → namePart o .at + namePart o .length ≤ length s
 part-in-of s (stop x p) h = omega arith
-part-in-of s (next c i) h = omega (arith, h .holds .0, h .holds .1)
+part-in-of s (next c i) h = omega (arith, h .holds .long, h .holds .within)
 
 module _ (s : List ℕ) (p : NamePart) (e : p ≡ partOf (namePart (read s))) where
   pub part-in : p .at + p .length ≤ length s
@@ -261,3 +260,8 @@ module _ (s : List ℕ) (p : NamePart) (e : p ≡ partOf (namePart (read s))) wh
   pub part-name : take (p .at + p .length - p .at) (drop (p .at) s) ≡ nameOf s
   unfolding nameOf
   part-name = let z : p .at + p .length - p .at ≡ p .length = omega arith in rw (z, e)
+
+-- 01: the name is handed back as the record's own bytes, and these are the case's name
+pub name-is : (s : List ℕ) (c : Case) (i : ℕ) → read s ≡ next c i → nameOf s ≡ c .name
+unfolding nameOf read
+name-is s c i e = rw e (gone forward-case 0 c i e .holds .bytes)

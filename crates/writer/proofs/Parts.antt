@@ -1,30 +1,28 @@
 -- A struct's record by stages: what each stage's bytes are in the record of the case that the struct means.
 -- Assumes nothing.
 use Prim.Native.Nat.{ℕ, zero, suc, _+_, _-_, _*_, _%_, _^_, _≤_, _<_}
-use native.Mathlib.Nat.{zero-add, suc-add, add-suc, add-zero}
+use native.Mathlib.Nat.{zero-add, add-zero}
 use native.Mathlib.Omega.{arith}
 use mathlib.Core.Path.{_≡_, refl, sym, ap, ap₂, _∙_}
-use mathlib.Core.Bool.{Bool, true, false, cond, _&&_}
+use mathlib.Core.Bool.{Bool, true, false, cond}
 use mathlib.Core.List.{List, [], _∷_, _++_, append-nil, append-assoc}
-use lib.Dec.{ltb}
-use lib.Bits.{bitAnd, and-mask}
 use lib.ListN.{length, getD, length-append}
-use borrow.Author.Tests.{lt-ltb, le-leb, lt-leb}
+use borrow.Author.Tests.{le-leb, lt-leb}
 use Rattle.finite.specs.Tests.{count, tick}
 use Rattle.finite.specs.Lists.{table, each}
 use Rattle.finite.proofs.Tests.{count-same}
 use Rattle.finite.proofs.Lists.{table-length, each-append}
 use Rattle.bits.specs.Bit.{bit}
-use Rattle.bits.proofs.Bits.{bit-below}
 use Rattle.number.specs.Number.{encode, splice}
 use Rattle.model.specs.Limits.{mostEvents}
 use Rattle.model.specs.Record.{Pair}
 use Rattle.model.specs.Written.{eventBytes, pairBytes, rowPairs, rowsPairs, orderBytes, recordOf}
 use Rattle.model.specs.Answers.{put}
 use Rattle.case.specs.declared.Case.{Case as Held}
-use Rattle.case.specs.Held.{eventOf, eventsOf, caseOf}
+use Rattle.case.specs.Held.{eventsOf, caseOf}
 use Rattle.case.specs.Stores.{storeAt, writesAt}
 use Rattle.case.proofs.WriteOrders.{table-snoc}
+use Rattle.case.proofs.Masks.{bit-left}
 use Rattle.case.proofs.Means.{writes-of}
 use Rattle.writer.specs.Stages.{run, sum, frontBytes, initialAt, eventAt, listingBytes, entryAt, writesOf, bitBytes, rowAt, pairsAt, pairs, orderAt, byteAt, nameBytes, restBytes, Room, Wrote, Size}
 use Rattle.writer.specs.Stored.{storedOf}
@@ -125,14 +123,6 @@ module _ (k : ℕ) (f : ℕ → ℕ) where
   rows-long (suc j) =
       ap length (last-rows j) ∙ length-append (rowsPairs k 0 (table 0 j f)) (rowPairs j (f j) 0 k)
       ∙ ap₂ (λ (x y : ℕ). x + y) (rows-long j) (row-long j (f j) k)
-
--- the bits below k are those of what is left by 2 ^ k
-and-true : (x y : Bool) → y ≡ true → (x && y) ≡ x
-and-true true y h = h
-and-true false y h = refl
-
-pub bit-left : (r k b : ℕ) → b < k → bit (r % 2 ^ k) b ≡ bit r b
-bit-left r k b h = ap (λ (x : ℕ). bit x b) (sym (and-mask r k)) ∙ bit-below r k b ∙ and-true (bit r b) (ltb b k) (lt-ltb b k h)
 
 bits-left : (r k a : ℕ) → run (bitBytes (r % 2 ^ k) a) k ≡ run (bitBytes r a) k
 unfolding bitBytes

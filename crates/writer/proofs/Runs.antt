@@ -8,17 +8,16 @@ use mathlib.Core.Path.{_≡_, refl, sym, ap, ap₂, _∙_, subst}
 use mathlib.Core.Logic.{⊎-elim}
 use mathlib.Core.Bool.{Bool, true, false, cond}
 use mathlib.Core.List.{List, [], _∷_, _++_, append-nil, append-assoc}
-use lib.ListN.{length, take, drop, set, length-append, take-append-drop}
+use lib.ListN.{length, take, set, length-append, take-append-drop}
 use Rattle.number.specs.Number.{encode, splice}
 use Rattle.number.proofs.Encoding.{lt-or-ge, encode-long, encode-low, encode-high}
 use Rattle.number.proofs.Splice.{splice-length, splice-append, is-sets}
-use borrow.Author.Tests.{eq-eqb, ne-eqb}
 use mir.Syntax.{w64}
 use mir.Val.{Fits}
 use Rattle.finite.specs.Tests.{count}
 use Rattle.bits.specs.Bit.{bit}
 use Rattle.model.specs.Limits.{mostEvents}
-use Rattle.model.specs.Case.{sync, bare}
+use Rattle.model.specs.Case.{bare}
 use Rattle.model.specs.Written.{eventBytes}
 use Rattle.case.specs.Held.{eventOf}
 use Rattle.case.proofs.WriteOrders.{count-le}
@@ -223,38 +222,39 @@ module _ (k t a v : ℕ) where
       by true h = rw h (sym (append-assoc (encode k) (encode t) []))
       by false h = rw h (sym (append-assoc (encode k) (encode t) (encode a ++ encode v)))
 
-  event-bare : k ≡ sync → eventBytes (eventOf k t a v) ≡ encode k ++ encode t
-  event-bare h = event-bytes ∙ rw (eq-eqb k sync h) (append-nil (encode k ++ encode t))
+  -- the ways through an event, whose kind is bare where b says so: wk, wt and wa are its kind, thread and address as they are written
+  module _ (b : Bool) (eb : b ≡ bare k) where
+    event-bare : b ≡ true → eventBytes (eventOf k t a v) ≡ encode k ++ encode t
+    event-bare y = event-bytes ∙ rw (← eb, y) (append-nil (encode k ++ encode t))
 
-  event-full : (k ≡ sync → ⊥) → eventBytes (eventOf k t a v) ≡ (encode k ++ encode t) ++ (encode a ++ encode v)
-  event-full h = event-bytes ∙ rw (ne-eqb k sync h)
+    event-full : b ≡ false → eventBytes (eventOf k t a v) ≡ (encode k ++ encode t) ++ (encode a ++ encode v)
+    event-full y = event-bytes ∙ rw (← eb, y)
 
-  -- the ways through an event: front is how many bytes its kind and thread take, wk and wt are the two as they are written
   module _ (wk wt : ℕ) (ek : wk ≡ k) (et : wt ≡ t) where
-    pub bare-size : k ≡ sync → (most most′ x : ℕ) → most ≤ most′ → Size (encode wk ++ encode wt) most x → Size (eventBytes (eventOf k t a v)) most′ x
-    bare-size h most most′ x l z = rw (event-bare h, ← ek, ← et) (record { size = z .size; few = omega (arith, z .few) })
+    pub event-room : (s : List ℕ) (at : ℕ) → Room s at (eventBytes (eventOf k t a v)) → Room s at (encode wk ++ encode wt)
+    event-room s at r = rw (ek, et) (room-first s at (encode k ++ encode t) _ (rw event-bytes at r))
 
-    pub full-size : (k ≡ sync → ⊥) → (wa : ℕ) → wa ≡ a → (most most′ x y : ℕ) → Size (encode wk ++ encode wt) most x → Size (encode wa ++ encode v) most′ y
-        → Size (eventBytes (eventOf k t a v)) (most + most′) (x + y)
-    full-size h wa ea most most′ x y z z′ = rw (event-full h, ← ek, ← et, ← ea) (size-append _ _ _ _ _ _ z z′)
+    module _ (b : Bool) (eb : b ≡ bare k) where
+      pub bare-size : b ≡ true → (most most′ x : ℕ) → most ≤ most′ → Size (encode wk ++ encode wt) most x → Size (eventBytes (eventOf k t a v)) most′ x
+      bare-size y most most′ x l z = rw (event-bare b eb y, ← ek, ← et) (record { size = z .size; few = omega (arith, z .few) })
 
-    module _ (s : List ℕ) (at : ℕ) (r : Room s at (eventBytes (eventOf k t a v))) where
-      pub event-room : Room s at (encode wk ++ encode wt)
-      event-room = rw (ek, et) (room-first s at (encode k ++ encode t) _ (rw event-bytes at r))
+      pub full-size : b ≡ false → (wa : ℕ) → wa ≡ a → (most most′ x y : ℕ) → Size (encode wk ++ encode wt) most x → Size (encode wa ++ encode v) most′ y
+          → Size (eventBytes (eventOf k t a v)) (most + most′) (x + y)
+      full-size n wa ea most most′ x y z z′ = rw (event-full b eb n, ← ek, ← et, ← ea) (size-append _ _ _ _ _ _ z z′)
 
-      module _ (u : List ℕ) (q : ℕ) (w : Wrote s at (encode wk ++ encode wt) u q) where
-        pub bare-wrote : k ≡ sync → Wrote s at (eventBytes (eventOf k t a v)) u q
-        bare-wrote h = rw (event-bare h, ← ek, ← et) w
+      module _ (s : List ℕ) (at : ℕ) (u : List ℕ) (q : ℕ) (w : Wrote s at (encode wk ++ encode wt) u q) where
+        pub bare-wrote : b ≡ true → Wrote s at (eventBytes (eventOf k t a v)) u q
+        bare-wrote y = rw (event-bare b eb y, ← ek, ← et) w
 
-        module _ (h : k ≡ sync → ⊥) (wa : ℕ) (ea : wa ≡ a) where
+        module _ (r : Room s at (eventBytes (eventOf k t a v))) (n : b ≡ false) (wa : ℕ) (ea : wa ≡ a) where
           full-room : Room s at ((encode wk ++ encode wt) ++ (encode wa ++ encode v))
-          full-room = rw (ek, et, ea) (rw (event-full h) at r)
+          full-room = rw (ek, et, ea) (rw (event-full b eb n) at r)
 
           pub rest-room : Room u q (encode wa ++ encode v)
           rest-room = room-then s at (encode wk ++ encode wt) (encode wa ++ encode v) full-room u q w
 
           pub full-wrote : (u′ : List ℕ) (q′ : ℕ) → Wrote u q (encode wa ++ encode v) u′ q′ → Wrote s at (eventBytes (eventOf k t a v)) u′ q′
-          full-wrote u′ q′ w′ = rw (event-full h, ← ek, ← et, ← ea) (wrote-then s at (encode wk ++ encode wt) (encode wa ++ encode v) full-room u q w u′ q′ w′)
+          full-wrote u′ q′ w′ = rw (event-full b eb n, ← ek, ← et, ← ea) (wrote-then s at (encode wk ++ encode wt) (encode wa ++ encode v) full-room u q w u′ q′ w′)
 
 -- ---- the front
 module _ (e n m : ℕ) where

@@ -2,7 +2,7 @@
 -- Assumes nothing.
 use Prim.Native.Nat.{ℕ}
 use mathlib.Core.List.{List}
-use Rattle.model.specs.Answers.{Answer, Stored, noFinals}
+use Rattle.model.specs.Answers.{Stored, noFinals}
 use Rattle.writer.specs.declared.Written.{Written}
 
 -- 01: "Fields not named in a row are 0, finals included"

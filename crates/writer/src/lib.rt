@@ -1,10 +1,10 @@
 // A case to its record, in a lent buffer.
 ghost use mathlib.Core.Path.{_≡_};
 ghost use mathlib.Core.List.{[], _∷_, _++_};
-ghost use Prim.Native.Nat.{ℕ, _+_, _*_, _≤_, _<_};
+ghost use Prim.Native.Nat.{_+_, _*_, _≤_, _<_};
 ghost use lib.ListN.{length, getD};
 ghost use Rattle.number.specs.Number.{encode};
-ghost use Rattle.model.specs.Limits.{mostEdition, mostThreads, mostAddresses, mostEvents, mostName};
+ghost use Rattle.model.specs.Limits.{mostThreads, mostAddresses, mostEvents, mostName};
 ghost use Rattle.model.specs.Written.{eventBytes, recordOf};
 ghost use Rattle.model.specs.Answers.{put as putOf};
 ghost use Rattle.case.specs.Held.{eventOf, caseOf};
@@ -55,7 +55,7 @@ fn count_pairs(rows: &[u64; Case::MOST_THREADS * Case::MOST_EVENTS], p: usize, k
     n
 }
 
-// ---- sizes
+// ---- how many bytes each stage of the record takes
 
 // How many bytes a number takes.
 fn size_of(v: u32) -> usize
@@ -70,23 +70,26 @@ fn size_of(v: u32) -> usize
     size
 }
 
+// Two numbers.
 fn size_two(a: u32, b: u32) -> usize
     ensures { λ r. ⌜ Size (encode a ++ encode b) mostTwo r ⌝ }
 {
     size_of(a) + size_of(b)
 }
 
+// Edition, threads and addresses.
 fn size_front(edition: u32, threads: u32, addresses: u32) -> usize
     ensures { λ r. ⌜ Size (frontBytes edition threads addresses) (mostNumber + mostTwo) r ⌝ }
 {
     size_of(edition) + size_two(threads, addresses)
 }
 
+// Kind, thread, and unless the kind is bare, address and value.
 fn size_event(kind: u8, thread: u8, address: u8, value: u32) -> usize
     ensures { λ r. ⌜ Size (eventBytes (eventOf kind thread address value)) mostEvent r ⌝ }
 {
     let front = size_two(wide(kind), wide(thread));
-    if kind == Case::SYNC {
+    if case::bare(kind) {
         return front;
     }
     front + size_two(wide(address), value)
@@ -103,7 +106,8 @@ fn size_bit(row: u64, a: usize, b: usize) -> usize
     0
 }
 
-fn size_initials<'a>(initial: &'a [u32; Case::MOST_ADDRESSES], m: usize) -> usize
+// The initial values of m addresses.
+fn size_initials(initial: &[u32; Case::MOST_ADDRESSES], m: usize) -> usize
     requires { ⌜ m ≤ mostAddresses ⌝ }
     ensures { λ r. ⌜ Size (run (initialAt (now (initial .entry))) m) (mostAddresses * mostNumber) r ⌝ }
 {
@@ -116,6 +120,7 @@ fn size_initials<'a>(initial: &'a [u32; Case::MOST_ADDRESSES], m: usize) -> usiz
     size
 }
 
+// The first k events.
 fn size_events<'a>(
     kinds: &'a [u8; Case::MOST_EVENTS],
     owners: &'a [u8; Case::MOST_EVENTS],
@@ -135,6 +140,7 @@ fn size_events<'a>(
     size
 }
 
+// The initial values, the number of events and the events.
 fn size_listing<'a>(
     initial: &'a [u32; Case::MOST_ADDRESSES],
     kinds: &'a [u8; Case::MOST_EVENTS],
@@ -152,8 +158,9 @@ fn size_listing<'a>(
     initials + (count + size_events(kinds, owners, targets, values, k))
 }
 
-fn size_entries<'a>(
-    writes: &'a [u8; Case::MOST_ADDRESSES * Case::MOST_EVENTS],
+// The first n entries of the write order of x.
+fn size_entries(
+    writes: &[u8; Case::MOST_ADDRESSES * Case::MOST_EVENTS],
     x: usize,
     n: usize,
 ) -> usize
@@ -169,6 +176,7 @@ fn size_entries<'a>(
     size
 }
 
+// The write order of x: one entry for each store to x.
 fn size_stores<'a>(
     kinds: &'a [u8; Case::MOST_EVENTS],
     targets: &'a [u8; Case::MOST_EVENTS],
@@ -183,6 +191,7 @@ fn size_stores<'a>(
     size_entries(writes, x, n)
 }
 
+// The write orders of m addresses.
 fn size_writes<'a>(
     kinds: &'a [u8; Case::MOST_EVENTS],
     targets: &'a [u8; Case::MOST_EVENTS],
@@ -202,8 +211,9 @@ fn size_writes<'a>(
     size
 }
 
-fn size_row<'a>(
-    rows: &'a [u64; Case::MOST_THREADS * Case::MOST_EVENTS],
+// The pairs of a's row in p's order.
+fn size_row(
+    rows: &[u64; Case::MOST_THREADS * Case::MOST_EVENTS],
     p: usize,
     a: usize,
     k: usize,
@@ -221,11 +231,8 @@ fn size_row<'a>(
     size
 }
 
-fn size_rows<'a>(
-    rows: &'a [u64; Case::MOST_THREADS * Case::MOST_EVENTS],
-    p: usize,
-    k: usize,
-) -> usize
+// The pairs of p's order.
+fn size_rows(rows: &[u64; Case::MOST_THREADS * Case::MOST_EVENTS], p: usize, k: usize) -> usize
     requires { ⌜ (p < mostThreads) × (k ≤ mostEvents) ⌝ }
     ensures { λ r. ⌜ Size (run (rowAt (now (rows .entry)) p k) k) (mostEvents * mostRow) r ⌝ }
 {
@@ -238,11 +245,8 @@ fn size_rows<'a>(
     size
 }
 
-fn size_order<'a>(
-    rows: &'a [u64; Case::MOST_THREADS * Case::MOST_EVENTS],
-    k: usize,
-    p: usize,
-) -> usize
+// The number of p's pairs, and the pairs.
+fn size_order(rows: &[u64; Case::MOST_THREADS * Case::MOST_EVENTS], k: usize, p: usize) -> usize
     requires { ⌜ (k ≤ mostEvents) × (p < mostThreads) ⌝ }
     ensures { λ r. ⌜ Size (orderAt (now (rows .entry)) k p) (mostOrder) r ⌝ }
 {
@@ -251,11 +255,8 @@ fn size_order<'a>(
     count + size_rows(rows, p, k)
 }
 
-fn size_orders<'a>(
-    rows: &'a [u64; Case::MOST_THREADS * Case::MOST_EVENTS],
-    k: usize,
-    n: usize,
-) -> usize
+// The orders of n threads.
+fn size_orders(rows: &[u64; Case::MOST_THREADS * Case::MOST_EVENTS], k: usize, n: usize) -> usize
     requires { ⌜ (k ≤ mostEvents) × (n ≤ mostThreads) ⌝ }
     ensures { λ r. ⌜ Size (run (orderAt (now (rows .entry)) k) n) (mostThreads * mostOrder) r ⌝ }
 {
@@ -268,6 +269,7 @@ fn size_orders<'a>(
     size
 }
 
+// The write orders, the orders, the name's length and its bytes.
 fn size_rest<'a>(
     kinds: &'a [u8; Case::MOST_EVENTS],
     targets: &'a [u8; Case::MOST_EVENTS],
@@ -288,8 +290,9 @@ fn size_rest<'a>(
     writes + (orders + (length + i))
 }
 
-// ---- writing: each stage from a place on, giving the next place
+// ---- each stage written from a place on; gives the place behind it
 
+// One number.
 fn write_number(out: &mut [u8], at: usize, v: u32) -> usize
     requires { ⌜ Room (now out) at (encode v) ⌝ }
     ensures { λ r. ⌜ Wrote (now (out .entry)) at (encode v) (now (out .exit)) r ⌝ }
@@ -297,6 +300,7 @@ fn write_number(out: &mut [u8], at: usize, v: u32) -> usize
     number::write_number(out, at, v)
 }
 
+// Two numbers.
 fn write_two(out: &mut [u8], at: usize, a: u32, b: u32) -> usize
     requires { ⌜ Room (now out) at (encode a ++ encode b) ⌝ }
     ensures { λ r. ⌜ Wrote (now (out .entry)) at (encode a ++ encode b) (now (out .exit)) r ⌝ }
@@ -305,6 +309,7 @@ fn write_two(out: &mut [u8], at: usize, a: u32, b: u32) -> usize
     write_number(out, next, b)
 }
 
+// Edition, threads and addresses.
 fn write_front(out: &mut [u8], at: usize, edition: u32, threads: u32, addresses: u32) -> usize
     requires { ⌜ Room (now out) at (frontBytes edition threads addresses) ⌝ }
     ensures { λ r. ⌜ Wrote (now (out .entry)) at (frontBytes edition threads addresses) (now (out .exit)) r ⌝ }
@@ -313,17 +318,19 @@ fn write_front(out: &mut [u8], at: usize, edition: u32, threads: u32, addresses:
     write_two(out, next, threads, addresses)
 }
 
+// Kind, thread, and unless the kind is bare, address and value.
 fn write_event(out: &mut [u8], at: usize, kind: u8, thread: u8, address: u8, value: u32) -> usize
     requires { ⌜ Room (now out) at (eventBytes (eventOf kind thread address value)) ⌝ }
     ensures { λ r. ⌜ Wrote (now (out .entry)) at (eventBytes (eventOf kind thread address value)) (now (out .exit)) r ⌝ }
 {
     let next = write_two(out, at, wide(kind), wide(thread));
-    if kind == Case::SYNC {
+    if case::bare(kind) {
         return next;
     }
     write_two(out, next, wide(address), value)
 }
 
+// The pair a, b if it stands in a's row.
 fn write_bit(out: &mut [u8], at: usize, row: u64, a: usize, b: usize) -> usize
     requires { ⌜ (a < mostEvents) × (b < mostEvents) ⌝ }
     requires { ⌜ Room (now out) at (bitBytes row a b) ⌝ }
@@ -335,6 +342,7 @@ fn write_bit(out: &mut [u8], at: usize, row: u64, a: usize, b: usize) -> usize
     at
 }
 
+// One byte.
 fn write_byte(out: &mut [u8], at: usize, b: u8) -> usize
     requires { ⌜ Room (now out) at (b ∷ []) ⌝ }
     ensures { λ r. ⌜ Wrote (now (out .entry)) at (b ∷ []) (now (out .exit)) r ⌝ }
@@ -343,10 +351,11 @@ fn write_byte(out: &mut [u8], at: usize, b: u8) -> usize
     at + 1
 }
 
-fn write_initials<'a>(
+// The initial values of m addresses.
+fn write_initials(
     out: &mut [u8],
     at: usize,
-    initial: &'a [u32; Case::MOST_ADDRESSES],
+    initial: &[u32; Case::MOST_ADDRESSES],
     m: usize,
 ) -> usize
     requires { ⌜ m ≤ mostAddresses ⌝ }
@@ -362,6 +371,7 @@ fn write_initials<'a>(
     place
 }
 
+// The first k events.
 fn write_events<'a>(
     out: &mut [u8],
     at: usize,
@@ -384,6 +394,7 @@ fn write_events<'a>(
     place
 }
 
+// The initial values, the number of events and the events.
 fn write_listing<'a>(
     out: &mut [u8],
     at: usize,
@@ -404,10 +415,11 @@ fn write_listing<'a>(
     write_events(out, after_count, kinds, owners, targets, values, k)
 }
 
-fn write_entries<'a>(
+// The first n entries of the write order of x.
+fn write_entries(
     out: &mut [u8],
     at: usize,
-    writes: &'a [u8; Case::MOST_ADDRESSES * Case::MOST_EVENTS],
+    writes: &[u8; Case::MOST_ADDRESSES * Case::MOST_EVENTS],
     x: usize,
     n: usize,
 ) -> usize
@@ -424,6 +436,7 @@ fn write_entries<'a>(
     place
 }
 
+// The write order of x: one entry for each store to x.
 fn write_stores<'a>(
     out: &mut [u8],
     at: usize,
@@ -441,6 +454,7 @@ fn write_stores<'a>(
     write_entries(out, at, writes, x, n)
 }
 
+// The write orders of m addresses.
 fn write_writes<'a>(
     out: &mut [u8],
     at: usize,
@@ -463,10 +477,11 @@ fn write_writes<'a>(
     place
 }
 
-fn write_row<'a>(
+// The pairs of a's row in p's order.
+fn write_row(
     out: &mut [u8],
     at: usize,
-    rows: &'a [u64; Case::MOST_THREADS * Case::MOST_EVENTS],
+    rows: &[u64; Case::MOST_THREADS * Case::MOST_EVENTS],
     p: usize,
     a: usize,
     k: usize,
@@ -485,10 +500,11 @@ fn write_row<'a>(
     place
 }
 
-fn write_rows<'a>(
+// The pairs of p's order.
+fn write_rows(
     out: &mut [u8],
     at: usize,
-    rows: &'a [u64; Case::MOST_THREADS * Case::MOST_EVENTS],
+    rows: &[u64; Case::MOST_THREADS * Case::MOST_EVENTS],
     p: usize,
     k: usize,
 ) -> usize
@@ -505,10 +521,11 @@ fn write_rows<'a>(
     place
 }
 
-fn write_order<'a>(
+// The number of p's pairs, and the pairs.
+fn write_order(
     out: &mut [u8],
     at: usize,
-    rows: &'a [u64; Case::MOST_THREADS * Case::MOST_EVENTS],
+    rows: &[u64; Case::MOST_THREADS * Case::MOST_EVENTS],
     k: usize,
     p: usize,
 ) -> usize
@@ -521,10 +538,11 @@ fn write_order<'a>(
     write_rows(out, after_count, rows, p, k)
 }
 
-fn write_orders<'a>(
+// The orders of n threads.
+fn write_orders(
     out: &mut [u8],
     at: usize,
-    rows: &'a [u64; Case::MOST_THREADS * Case::MOST_EVENTS],
+    rows: &[u64; Case::MOST_THREADS * Case::MOST_EVENTS],
     k: usize,
     n: usize,
 ) -> usize
@@ -541,7 +559,8 @@ fn write_orders<'a>(
     place
 }
 
-fn write_bytes<'a>(out: &mut [u8], at: usize, name: &'a [u8; Case::MOST_NAME], i: usize) -> usize
+// The first i bytes of the name.
+fn write_bytes(out: &mut [u8], at: usize, name: &[u8; Case::MOST_NAME], i: usize) -> usize
     requires { ⌜ i ≤ mostName ⌝ }
     requires { ⌜ Room (now out) at (run (byteAt (now name)) i) ⌝ }
     ensures { λ r. ⌜ Wrote (now (out .entry)) at (run (byteAt (now (name .entry))) i) (now (out .exit)) r ⌝ }
@@ -555,7 +574,8 @@ fn write_bytes<'a>(out: &mut [u8], at: usize, name: &'a [u8; Case::MOST_NAME], i
     place
 }
 
-fn write_name<'a>(out: &mut [u8], at: usize, name: &'a [u8; Case::MOST_NAME], i: usize) -> usize
+// The name's length and its bytes.
+fn write_name(out: &mut [u8], at: usize, name: &[u8; Case::MOST_NAME], i: usize) -> usize
     requires { ⌜ i ≤ mostName ⌝ }
     requires { ⌜ Room (now out) at (nameBytes (now name) i) ⌝ }
     ensures { λ r. ⌜ Wrote (now (out .entry)) at (nameBytes (now (name .entry)) i) (now (out .exit)) r ⌝ }
@@ -564,6 +584,7 @@ fn write_name<'a>(out: &mut [u8], at: usize, name: &'a [u8; Case::MOST_NAME], i:
     write_bytes(out, after_length, name, i)
 }
 
+// The write orders, the orders, the name's length and its bytes.
 fn write_rest<'a>(
     out: &mut [u8],
     at: usize,
@@ -591,7 +612,6 @@ fn write_rest<'a>(
 // How many bytes the record of a case takes.
 pub fn size(c: Case) -> usize
     requires { ⌜ Sound c ⌝ }
-    requires { ⌜ c .edition ≤ mostEdition ⌝ }
     ensures { λ r. ⌜ r ≡ length (recordOf (caseOf c)) ⌝ }
 {
     let front = size_front(c.edition as u32, c.threads as u32, c.addresses as u32);
@@ -621,7 +641,6 @@ pub fn size(c: Case) -> usize
 // Writes the record of a case from the first byte on.
 fn write_record(out: &mut [u8], c: Case) -> usize
     requires { ⌜ Sound c ⌝ }
-    requires { ⌜ c .edition ≤ mostEdition ⌝ }
     requires { ⌜ Room (now out) 0 (recordOf (caseOf c)) ⌝ }
     ensures { λ r. ⌜ Wrote (now (out .entry)) 0 (recordOf (caseOf c)) (now (out .exit)) r ⌝ }
 {
@@ -662,7 +681,6 @@ fn write_record(out: &mut [u8], c: Case) -> usize
 // nothing is written.
 pub fn put(c: Case, out: &mut [u8], at: usize) -> Written
     requires { ⌜ Sound c ⌝ }
-    requires { ⌜ c .edition ≤ mostEdition ⌝ }
     ensures { λ r. ⌜ storedOf r (now (out .exit)) ≡ putOf (recordOf (caseOf c)) (now (out .entry)) at ⌝ }
 {
     let length = size(c);

@@ -1,6 +1,5 @@
 -- `case::write_fault` meets its contract. Assumes nothing.
 use Prim.Native.Nat.{_-_}
-use native.Mathlib.Omega.{arith}
 use borrow.Author.Needs.{needs}
 use Rattle.case.specs.Stores.{storeAt}
 use Rattle.case.proofs.WriteOrders.{Listing, listing-begun, listing-done, no-event, not-unlisted, one-listed, entry, of-order, few-stores}

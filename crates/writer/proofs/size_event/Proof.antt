@@ -12,7 +12,10 @@ size-event-spec =
     (λ c κs. search needs)
     (λ c κs. search needs)
     (λ c κs. search needs)
-    (λ c. bare-size _ _ _ _ _ _ (c .before .before .before .wide .ensures) (c .before .before .wide2 .ensures) (c .if1 .taken) _ _ _ (omega arith) (c .before .size-two .ensures))
+    (λ c κs. search needs)
+    (λ c.
+    let b = c .before .before in
+    bare-size _ _ _ _ _ _ (b .before .before .wide .ensures) (b .before .wide2 .ensures) _ (c .before .bare .ensures) (c .if1 .taken) _ _ _ (omega arith) (b .size-two .ensures))
     (λ c κs. search needs)
     (λ c κs. search needs)
     (λ c. search needs)

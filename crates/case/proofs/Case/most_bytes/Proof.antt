@@ -1,5 +1,4 @@
 -- `case::Case::most_bytes` meets its contract, by computation. Assumes nothing.
-use mathlib.Core.Path.{refl}
 use Rattle.model.specs.Bound.{mostBytes, mostEventBytes, mostOrderBytes}
 use Rattle.case.proofs.Sizes.{sizeBy, sizeOf, size-of}
 use Rattle.case.proofs.Case.most_bytes.Statement.{statement}

@@ -1,0 +1,65 @@
+-- A struct's case has the shape of one that was read: without fault it keeps the limits.
+-- Assumes nothing.
+use Prim.Native.Nat.{ℕ, zero, suc, _+_, _%_, _^_, _≤_, _<_}
+use native.Mathlib.Nat.{mod-lt}
+use native.Mathlib.Omega.{arith}
+use native.Mathlib.Decide.{decLt}
+use mathlib.Core.Path.{_≡_, refl, ap, sym, _∙_}
+use mathlib.Core.Bool.{Bool, true, false, cond, true≢false}
+use mathlib.Core.List.{List, [], _∷_}
+use lib.ListN.{length, getD, List·getD-eq-default}
+use lib.Pow.{pow-pos}
+use Rattle.finite.specs.Tests.{count}
+use Rattle.finite.specs.Lists.{table}
+use Rattle.finite.proofs.Lists.{table-length}
+use Rattle.model.specs.Case.{Case, Event, bare}
+use Rattle.model.specs.Record.{storeTo}
+use Rattle.model.specs.Fault.{fault}
+use Rattle.laws.proofs.Fits.{All, Bytes, Fits}
+use Rattle.laws.proofs.AllFrom.{all-at, all-table, from-table}
+use Rattle.laws.proofs.Faultless.{Shaped, faultless, fits-of}
+use Rattle.case.specs.declared.Case.{Case as Held}
+use Rattle.case.specs.Held.{eventOf, eventsOf, caseOf, held}
+use Rattle.case.specs.Sound.{Sound}
+use Rattle.case.proofs.Bounds.{sound}
+use Rattle.case.proofs.HeldBack.{fits-back}
+
+-- a bare event has neither address nor value
+cleared : (k t a v : ℕ) → bare (eventOf k t a v .kind) ≡ true → (eventOf k t a v .address ≡ 0) × (eventOf k t a v .value ≡ 0)
+unfolding eventOf
+cleared k t a v h = by (bare k) refl h
+  where
+    by : (x : Bool) → bare k ≡ x
+        → let e : Event = cond {A = Event} x (record { kind = k; thread = t; address = 0; value = 0 }) (record { kind = k; thread = t; address = a; value = v }) in
+        bare (e .kind) ≡ true → (e .address ≡ 0) × (e .value ≡ 0)
+    by true e h = (refl, refl)
+    by false e h = absurd (true≢false (sym h ∙ e))
+
+byte-at : (s : List ℕ) → Bytes s → (i : ℕ) → getD s i 0 < 256
+byte-at s b i = by (decLt i (length s))
+  where
+    by : Dec (i < length s) → getD s i 0 < 256
+    by (yes h) = all-at (λ x. x < 256) s b i 0 h
+    by (no h) = omega (arith, List·getD-eq-default s 0 {n = i} (omega arith))
+
+module _ (c : Held) (b : Bytes (c .name)) where
+  shaped : Shaped (caseOf c)
+  unfolding caseOf eventsOf
+  shaped = record {
+    m = sym (table-length 0 (c .addresses) _);
+    k = sym (table-length 0 (c .events) _);
+    no-address = all-table _ 0 (c .events) _ (λ e l h. cleared _ _ _ _ h .0);
+    no-value = all-table _ 0 (c .events) _ (λ e l h. cleared _ _ _ _ h .1);
+    m′ = sym (table-length 0 (c .addresses) _);
+    writes = from-table _ 0 (c .addresses) _ (λ x l. table-length 0 _ _);
+    n = sym (table-length 0 (c .threads) _);
+    orders = all-table _ 0 (c .threads) _ (λ p l. (table-length 0 (c .events) _, all-table _ 0 (c .events) _ (λ a l. mod-lt _ (pow-pos (c .events)))));
+    name-bytes = all-table _ 0 (c .namelength) _ (λ i l. byte-at (c .name) b i);
+  }
+
+  pub fits-case : fault (caseOf c) ≡ 0 → Fits (caseOf c)
+  fits-case h = fits-of (caseOf c) shaped h
+
+-- a case that keeps the limits lies in a struct whose numbers are within their ranges
+pub held-sound : (c : Case) → Fits c → Sound (held c)
+held-sound c F = sound (held c) (ap fault (fits-back c F) ∙ faultless c F)

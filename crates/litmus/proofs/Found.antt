@@ -1,0 +1,75 @@
+-- What a reading of the code says: the case that the model reads, or its refusal.
+-- Assumes nothing.
+use Prim.Native.Nat.{ℕ, _≤_}
+use native.Mathlib.Omega.{arith}
+use mathlib.Core.Path.{_≡_, refl, sym, ap, _∙_, subst}
+use mathlib.Core.List.{List}
+use lib.ListN.{replicate}
+use Rattle.number.specs.Reader.{Out, stop, next}
+use Rattle.model.specs.Limits.{mostAddresses}
+use Rattle.model.specs.Case.{Case}
+use Rattle.model.specs.Record.{read}
+use Rattle.laws.proofs.Fits.{Fits, Bytes}
+use Rattle.laws.proofs.ExactCase.{readable, refused}
+use Rattle.case.specs.declared.Case.{Case as Held}
+use Rattle.case.specs.Held.{caseOf, held}
+use Rattle.case.specs.Sound.{Sound}
+use Rattle.case.proofs.HeldBack.{fits-back}
+use Rattle.case.proofs.Shape.{held-sound}
+use Rattle.reader.specs.declared.Reading.{Reading}
+use Rattle.reader.specs.Answers.{readingOf}
+use Rattle.litmus.specs.declared.CaseAnswer.{CaseAnswer}
+use Rattle.litmus.specs.Shown.{caseShown}
+
+pub record Found (s : List ℕ) (r : Reading) : Type 0 where
+  pub c : Case
+  pub is-read : read s ≡ next c (r .length)
+  pub holds : r .case ≡ held c
+  pub fits : Fits c
+
+-- the struct means the case
+module _ {s : List ℕ} {r : Reading} (f : Found s r) where
+  pub case-is : caseOf (r .case) ≡ f .c
+  case-is = ap caseOf (f .holds) ∙ fits-back (f .c) (f .fits)
+
+  pub case-sound : Sound (r .case)
+  case-sound = subst Sound (sym (f .holds)) (held-sound (f .c) (f .fits))
+
+pub found : (s : List ℕ) → Bytes s → (r : Reading) → r ≡ readingOf (read s) → r .number ≡ 0 → Found s r
+unfolding readingOf
+found s b r e z = go (read s) refl e
+  where
+    go : (o : Out Case) → read s ≡ o → r ≡ readingOf o → Found s r
+    go (stop x p) g e =
+        let same : r .number ≡ x = ap (λ (q : Reading). q .number) e in
+        absurd (omega (arith, refused s b x p g .least))
+    go (next c i) g e =
+        let same : r .length ≡ i = ap (λ (q : Reading). q .length) e in
+        record {
+          c = c;
+          is-read = g ∙ ap (next c) (sym same);
+          holds = ap (λ (q : Reading). q .case) e;
+          fits = readable s b c i g .fits;
+        }
+
+pub missed : (s : List ℕ) (r : Reading) → r ≡ readingOf (read s) → (r .number ≡ 0 → ⊥) → read s ≡ stop (r .number) (r .place)
+unfolding readingOf
+missed s r e z = go (read s) refl e
+  where
+    go : (o : Out Case) → read s ≡ o → r ≡ readingOf o → read s ≡ stop (r .number) (r .place)
+    go (stop x p) g e = g ∙ (λ i. stop (sym e i .number) (sym e i .place))
+    go (next c j) g e = absurd (z (ap (λ (q : Reading). q .number) e))
+
+-- a reading as the answer that callers get
+pub read-shown :
+    (o : Out Case) (r : Reading) → r ≡ readingOf o
+    → _≡_ {A = CaseAnswer}
+    (record { answer = record { number = r .number; place = r .place; length = r .length; finals = replicate mostAddresses 0 }; case = r .case }) (caseShown o)
+unfolding readingOf caseShown
+read-shown o r e = go o r e
+  where
+    go : (o : Out Case) (r : Reading) → r ≡ readingOf o
+        → _≡_ {A = CaseAnswer}
+        (record { answer = record { number = r .number; place = r .place; length = r .length; finals = replicate mostAddresses 0 }; case = r .case }) (caseShown o)
+    go (stop x p) r e = λ i. record { answer = record { number = e i .number; place = e i .place; length = e i .length; finals = replicate mostAddresses 0 }; case = e i .case }
+    go (next c j) r e = λ i. record { answer = record { number = e i .number; place = e i .place; length = e i .length; finals = replicate mostAddresses 0 }; case = e i .case }

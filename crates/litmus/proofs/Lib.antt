@@ -1,0 +1,4 @@
+pub mod Models
+pub mod Bytes
+pub mod Found
+pub mod Given

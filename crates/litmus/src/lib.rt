@@ -1,0 +1,340 @@
+// Judging litmus cases for the POWER memory model PPC-Core: what users call. Every function takes any bytes and any numbers.
+ghost use mathlib.Core.Path.{_≡_};
+ghost use lib.Dec.{eqb};
+ghost use lib.ListN.{replicate};
+ghost use Rattle.permutation.specs.Permutation.{composite as compositeOf, inverse as inverseOf, fits as fitsOf};
+ghost use Rattle.model.specs.Rules.{verdict as verdictOf};
+ghost use Rattle.model.specs.Record.{read as readRecord};
+ghost use Rattle.model.specs.Answers.{refusal, done, answerOf, judgement, judge as judgeRecord, judgeCase, put as putRecord, write as writeCase, renumberRecord, renumberCase, name as nameOf, judgedName, renumberedName, roomIn};
+ghost use Rattle.number.specs.Reader.{stop};
+ghost use Rattle.model.specs.Written.{recordOf};
+ghost use Rattle.model.specs.Renumber.{fitting as fittingOf};
+ghost use Rattle.case.specs.Held.{caseOf};
+ghost use Rattle.case.specs.Sound.{Sound};
+ghost use Rattle.rules.specs.Verdict.{modelOf};
+ghost use Rattle.litmus.specs.Shown.{shown, caseShown, partShown};
+use case::Case;
+
+// The answer of a call. The number is 0 (accepted or done), a refusal 1 to 7, or the lowest broken rule 11 to 18. The place
+// is where a faulty number starts, the length that of the record, and the finals are the final memory by address. Fields
+// that an answer doesn't speak of are 0.
+#[repr(C)]
+pub struct Answer {
+    pub number: u32,
+    pub place: usize,
+    pub length: usize,
+    pub finals: [u32; Case::MOST_ADDRESSES],
+}
+
+// An answer and its case, which is `Case::empty()` where it was refused.
+pub struct CaseAnswer {
+    pub answer: Answer,
+    pub case: Case,
+}
+
+// A part of a record: where it starts and how many bytes it has.
+#[repr(C)]
+pub struct Part {
+    pub at: usize,
+    pub length: usize,
+}
+
+// The number of a model that is none (01: "model not 0 or 1"), of a permutation that doesn't fit, and of too little room.
+const NO_MODEL: u8 = 7;
+
+const NO_FIT: u8 = 5;
+
+const MODELS: u64 = 2;
+
+// A refusal and its place.
+fn refused(number: u8, place: usize) -> Answer
+    ensures { λ r. ⌜ r ≡ shown (refusal number place) ⌝ }
+{
+    Answer {
+        number: number as u32,
+        place,
+        length: 0,
+        finals: [0u32; Case::MOST_ADDRESSES],
+    }
+}
+
+// Done, with a record of so many bytes.
+fn finished(length: usize) -> Answer
+    ensures { λ r. ⌜ r ≡ shown (done length) ⌝ }
+{
+    Answer {
+        number: 0,
+        place: 0,
+        length,
+        finals: [0u32; Case::MOST_ADDRESSES],
+    }
+}
+
+// Reads a record: 0, its length and its case, or 1 to 4 and the place.
+pub fn read(bytes: &[u8]) -> CaseAnswer
+    ensures { λ r. ⌜ r ≡ caseShown (readRecord (now (bytes .entry))) ⌝ }
+{
+    let reading = reader::read_case(bytes);
+    let answer = Answer {
+        number: reading.number as u32,
+        place: reading.place,
+        length: reading.length,
+        finals: [0u32; Case::MOST_ADDRESSES],
+    };
+    let case = reading.case;
+    CaseAnswer { answer, case }
+}
+
+// The verdict and the finals of a case whose record is so many bytes long.
+fn judged(c: Case, length: usize, strong: bool) -> Answer
+    requires { ⌜ Sound c ⌝ }
+    ensures { λ r. ⌜ r ≡ shown (judgement (caseOf c) length (verdictOf (caseOf c) (modelOf strong))) ⌝ }
+{
+    let number = rules::verdict(c, strong);
+    if number == 0 {
+        let finals = rules::finals(c);
+        return Answer {
+            number: 0,
+            place: 0,
+            length,
+            finals,
+        };
+    }
+    Answer {
+        number: number as u32,
+        place: 0,
+        length,
+        finals: [0u32; Case::MOST_ADDRESSES],
+    }
+}
+
+// Judges a record under model 0 (PPCw) or 1 (PPCs): 7 for any other; the record's 1 to 4; 11 to 18; or 0 with the finals.
+pub fn judge(bytes: &[u8], model: u64) -> Answer
+    ensures { λ r. ⌜ r ≡ shown (judgeRecord model (now (bytes .entry))) ⌝ }
+{
+    if MODELS <= model {
+        return refused(NO_MODEL, 0);
+    }
+    let reading = reader::read_case(bytes);
+    if reading.number == 0 {
+        let case = reading.case;
+        return judged(case, reading.length, model == 1);
+    }
+    refused(reading.number, reading.place)
+}
+
+// The same of a case: 3 or 4 with place 0 where a field of it is bad. The length is that of its record.
+pub fn judge_case(c: Case, model: u64) -> Answer
+    ensures { λ r. ⌜ r ≡ shown (judgeCase model (caseOf c)) ⌝ }
+{
+    if MODELS <= model {
+        return refused(NO_MODEL, 0);
+    }
+    let fault = case::fault(c);
+    if fault == 0 {
+        let length = writer::size(c);
+        return judged(c, length, model == 1);
+    }
+    refused(fault, 0)
+}
+
+// Writes the record of a case without fault into the buffer from a place on, or 6.
+fn put(c: Case, out: &mut [u8], at: usize) -> Answer
+    requires { ⌜ Sound c ⌝ }
+    ensures { λ r. ⌜ r ≡ shown (putRecord (recordOf (caseOf c)) (now (out .entry)) at .answer) ⌝ }
+    ensures { λ r. ⌜ now (out .exit) ≡ putRecord (recordOf (caseOf c)) (now (out .entry)) at .buffer ⌝ }
+{
+    let stored = writer::put(c, out, at);
+    Answer {
+        number: stored.number as u32,
+        place: 0,
+        length: stored.length,
+        finals: [0u32; Case::MOST_ADDRESSES],
+    }
+}
+
+// Writes a case's record into the buffer from a place on: 3 or 4 with place 0 for a bad field, then 6.
+pub fn write(c: Case, out: &mut [u8], at: usize) -> Answer
+    ensures { λ r. ⌜ r ≡ shown (writeCase (caseOf c) (now (out .entry)) at .answer) ⌝ }
+    ensures { λ r. ⌜ now (out .exit) ≡ writeCase (caseOf c) (now (out .entry)) at .buffer ⌝ }
+{
+    let fault = case::fault(c);
+    if fault == 0 {
+        return put(c, out, at);
+    }
+    refused(fault, 0)
+}
+
+// Whether q maps the case's threads onto themselves, and r its addresses.
+fn fitting(c: Case, q: u64, r: u64) -> bool
+    ensures { λ b. ⌜ b ≡ fittingOf q r (caseOf c) ⌝ }
+{
+    if fits(q, c.threads) {
+        return fits(r, c.addresses);
+    }
+    false
+}
+
+// Renumbers a record, threads by the permutation q and addresses by r, into another buffer from a place on: the record's
+// 1 to 4; 5 for a permutation that doesn't fit; 6 for too little room; or 0 and the record's length.
+pub fn renumber(bytes: &[u8], q: u64, r: u64, out: &mut [u8], at: usize) -> Answer
+    ensures { λ a. ⌜ a ≡ shown (renumberRecord q r (now (bytes .entry)) (now (out .entry)) at .answer) ⌝ }
+    ensures { λ a. ⌜ now (out .exit) ≡ renumberRecord q r (now (bytes .entry)) (now (out .entry)) at .buffer ⌝ }
+{
+    let reading = reader::read_case(bytes);
+    if reading.number == 0 {
+        let case = reading.case;
+        if fitting(case, q, r) {
+            return put(relabel::relabel(case, q as usize, r as usize), out, at);
+        }
+        return refused(NO_FIT, 0);
+    }
+    refused(reading.number, reading.place)
+}
+
+// Renumbers a case: 3 or 4 with place 0 for a bad field; 5; or 0, the length of its record and the case.
+pub fn renumber_case(c: Case, q: u64, r: u64) -> CaseAnswer
+    ensures { λ a. ⌜ a ≡ caseShown (renumberCase q r (caseOf c)) ⌝ }
+{
+    let fault = case::fault(c);
+    if fault == 0 {
+        if fitting(c, q, r) {
+            let case = relabel::relabel(c, q as usize, r as usize);
+            let answer = finished(writer::size(case));
+            return CaseAnswer { answer, case };
+        }
+        return no_case(NO_FIT);
+    }
+    no_case(fault)
+}
+
+// A refusal with place 0, and the empty case.
+fn no_case(number: u8) -> CaseAnswer
+    ensures { λ r. ⌜ r ≡ caseShown (stop number 0) ⌝ }
+{
+    let answer = refused(number, 0);
+    let case = Case::empty();
+    CaseAnswer { answer, case }
+}
+
+// The name of a record, as a part of it; empty where it can't be read.
+pub fn name<'a>(bytes: &'a [u8]) -> &'a [u8]
+    ensures { λ r. ⌜ now r ≡ nameOf (now (bytes .entry)) ⌝ }
+{
+    reader::name(bytes)
+}
+
+// The name beside `judge`: empty under 1 to 4 and 7.
+pub fn judged_name<'a>(bytes: &'a [u8], model: u64) -> &'a [u8]
+    ensures { λ r. ⌜ now r ≡ judgedName model (now (bytes .entry)) ⌝ }
+{
+    if MODELS <= model {
+        return &bytes[0..0];
+    }
+    reader::name(bytes)
+}
+
+// Whether `renumber` into a buffer of so many bytes is done.
+fn renumbers(bytes: &[u8], q: u64, r: u64, room: usize, at: usize) -> bool
+    ensures { λ b. ⌜ b ≡ eqb (renumberRecord q r (now (bytes .entry)) (replicate room 0) at .answer .number) 0 ⌝ }
+{
+    let reading = reader::read_case(bytes);
+    if reading.number == 0 {
+        let case = reading.case;
+        if fitting(case, q, r) {
+            return has_room(reading.length, room, at);
+        }
+        return false;
+    }
+    false
+}
+
+// The name beside `renumber` into a buffer of so many bytes: empty under 1 to 6.
+pub fn renumbered_name<'a>(bytes: &'a [u8], q: u64, r: u64, room: usize, at: usize) -> &'a [u8]
+    ensures { λ s. ⌜ now s ≡ renumberedName q r (now (bytes .entry)) room at ⌝ }
+{
+    if renumbers(bytes, q, r, room, at) {
+        return reader::name(bytes);
+    }
+    &bytes[0..0]
+}
+
+// Whether a place is not past the end of a buffer of so many bytes, and size bytes are left from there.
+fn has_room(size: usize, room: usize, at: usize) -> bool
+    ensures { λ b. ⌜ b ≡ roomIn size room at ⌝ }
+{
+    if at <= room {
+        return size <= room - at;
+    }
+    false
+}
+
+// First the permutation q, then r.
+pub fn composite(q: u64, r: u64) -> u64
+    ensures { λ s. ⌜ s ≡ compositeOf q r ⌝ }
+{
+    permutation::composite(q as usize, r as usize) as u64
+}
+
+// The permutation that takes q back.
+pub fn inverse(q: u64) -> u64
+    ensures { λ s. ⌜ s ≡ inverseOf q ⌝ }
+{
+    permutation::inverse(q as usize) as u64
+}
+
+// Whether q is a permutation number, 0 to 23, that maps the labels below n onto themselves.
+pub fn fits(q: u64, n: usize) -> bool
+    ensures { λ b. ⌜ b ≡ fitsOf q n ⌝ }
+{
+    permutation::fits(q as usize, n)
+}
+
+// The functions for C, as include/litmus.h declares them.
+
+#[no_mangle]
+pub extern "C" fn litmus_read(bytes: &[u8]) -> Answer
+    ensures { λ r. ⌜ r ≡ shown (answerOf (readRecord (now (bytes .entry)))) ⌝ }
+{
+    let reading = read(bytes);
+    reading.answer
+}
+
+#[no_mangle]
+pub extern "C" fn litmus_judge(bytes: &[u8], model: u64) -> Answer
+    ensures { λ r. ⌜ r ≡ shown (judgeRecord model (now (bytes .entry))) ⌝ }
+{
+    judge(bytes, model)
+}
+
+#[no_mangle]
+pub extern "C" fn litmus_renumber(
+    bytes: &[u8],
+    threads: u64,
+    addresses: u64,
+    out: &mut [u8],
+    at: u64,
+) -> Answer
+    ensures { λ a. ⌜ a ≡ shown (renumberRecord threads addresses (now (bytes .entry)) (now (out .entry)) at .answer) ⌝ }
+    ensures { λ a. ⌜ now (out .exit) ≡ renumberRecord threads addresses (now (bytes .entry)) (now (out .entry)) at .buffer ⌝ }
+{
+    renumber(bytes, threads, addresses, out, at as usize)
+}
+
+#[no_mangle]
+pub extern "C" fn litmus_name(bytes: &[u8]) -> Part
+    ensures { λ r. ⌜ r ≡ partShown (readRecord (now (bytes .entry))) ⌝ }
+{
+    let part = reader::name_part(bytes);
+    Part {
+        at: part.at,
+        length: part.length,
+    }
+}
+
+#[no_mangle]
+pub extern "C" fn litmus_composite(first: u64, then: u64) -> u64
+    ensures { λ s. ⌜ s ≡ compositeOf first then ⌝ }
+{
+    composite(first, then)
+}

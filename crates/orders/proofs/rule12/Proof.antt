@@ -1,0 +1,40 @@
+-- `orders::rule12` meets its contract. Assumes nothing.
+use Prim.Native.Nat.{ℕ, _+_, _-_, _*_, _<_, _≤_}
+use borrow.Author.Needs.{needs}
+use native.Mathlib.Omega.{arith}
+use mathlib.Core.Path.{_≡_, refl, sym, ap, ap₂, _∙_, subst}
+use mathlib.Core.Bool.{Bool, true, not, _&&_, _||_}
+use lib.Dec.{eqb, ltb}
+use lib.ListN.{getD}
+use Rattle.finite.specs.Tests.{all, some, count, _⇒_}
+use Rattle.rows.specs.Sets.{Set, rowIn, orderIn, setIn, storeIn}
+use Rattle.bits.specs.Bit.{bit}
+use Rattle.rows.proofs.Loops.{Passed, begun, fails, passes, ends}
+use Rattle.model.specs.Rules.{first}
+use Rattle.orders.specs.Parts.{closed, connected, listed, coherent, writesIn, writtenIn}
+use Rattle.rows.specs.May.{may12}
+use Rattle.orders.proofs.rule12.Statement.{statement}
+use Rattle.orders.proofs.rule12.Tie as tie
+
+abbrev Inv-loop : tie.InvT-loop
+Inv-loop own asked n k p₀ p = Passed n (λ p. all k (connected k (setIn own p) (orderIn asked p))) p
+
+abbrev μ-loop : tie.MeasureT-loop
+μ-loop own asked n k p₀ p = n - p
+
+pub rule12-spec : {M : Type 1} → statement M
+unfolding may12
+rule12-spec =
+    tie.close
+    (tie.spec
+    Inv-loop
+    μ-loop
+    (λ c. begun)
+    (λ c. search needs)
+    (λ c. search needs)
+    (λ c κs. search needs)
+    (λ c. search fails)
+    (λ c. omega arith)
+    (λ c. omega arith)
+    (λ c. search passes)
+    (λ c. search ends))

@@ -1,0 +1,45 @@
+-- `orders::rule13` meets its contract. Assumes nothing.
+use Prim.Native.Nat.{ℕ, _+_, _-_, _*_, _<_, _≤_}
+use borrow.Author.Needs.{needs}
+use native.Mathlib.Omega.{arith}
+use mathlib.Core.Path.{_≡_, refl, sym, ap, ap₂, _∙_, subst}
+use mathlib.Core.Bool.{Bool, true, not, _&&_, _||_}
+use lib.Dec.{eqb, ltb}
+use lib.ListN.{getD}
+use Rattle.finite.specs.Tests.{all, some, count, _⇒_}
+use Rattle.rows.specs.Sets.{Set, rowIn, orderIn, setIn, storeIn}
+use Rattle.bits.specs.Bit.{bit}
+use Rattle.rows.proofs.Loops.{Passed, begun, fails, passes, ends}
+use Rattle.model.specs.Rules.{first}
+use Rattle.orders.specs.Parts.{closed, connected, listed, coherent, writesIn, writtenIn}
+use Rattle.orders.proofs.Laws.{by-listing}
+use Rattle.orders.proofs.rule13.Statement.{statement}
+use Rattle.orders.proofs.rule13.Tie as tie
+
+abbrev Inv-loop : tie.InvT-loop
+Inv-loop own syncs partners asked n k p₀ p = Passed n (λ p. all k (listed k (setIn own p) (bit syncs) (setIn partners) (orderIn asked p))) p
+
+abbrev μ-loop : tie.MeasureT-loop
+μ-loop own syncs partners asked n k p₀ p = n - p
+
+pub rule13-spec : {M : Type 1} → statement M
+rule13-spec =
+    tie.close
+    (tie.spec
+    Inv-loop
+    μ-loop
+    (λ c. begun)
+    (λ c. search needs)
+    (λ c. search needs)
+    (λ c κs. search needs)
+    (λ c.
+    let s = c .before .before .before .before .before .args in
+    fails (c .before .before .before .before .loop .inv) (c .before .before .before .loop-test .taken) (c .before .listed-order .ensures) (c .if1 .taken)
+    ∙ by-listing (s .n) (s .k) (setIn (s .own .now)) (bit (s .syncs)) (setIn (s .partners .now)) (orderIn (s .asked .now)))
+    (λ c. omega arith)
+    (λ c. omega arith)
+    (λ c. search passes)
+    (λ c.
+    let s = c .before .before .args in
+    ends (c .before .loop .inv) (c .loop-test .left)
+    ∙ by-listing (s .n) (s .k) (setIn (s .own .now)) (bit (s .syncs)) (setIn (s .partners .now)) (orderIn (s .asked .now))))

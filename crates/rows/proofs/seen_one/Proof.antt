@@ -1,0 +1,21 @@
+-- `rows::seen_one` meets its contract. Assumes nothing.
+use borrow.Author.Needs.{needs}
+use Rattle.rows.proofs.SetLaws.{masked, seen-with, seen-none}
+use mathlib.Core.Path.{sym, _∙_}
+use Rattle.rows.proofs.seen_one.Statement.{statement}
+use Rattle.rows.proofs.seen_one.Tie as tie
+
+pub seen-one-spec : {M : Type 1} → statement M
+seen-one-spec =
+    tie.close
+    (tie.spec
+    (λ c κs. search needs)
+    (λ c κs. search needs)
+    (λ c κs. search needs)
+    (λ c κs. search needs)
+    (λ c.
+    let h = c .before .before .before .before in
+    let s = h .before .args in
+    seen-with (s .k) (s .a) (s .mine) (h .before .pre .1) (masked (s .k) (s .mine) (c .before .both .ensures) (c .before .before .below .ensures))
+    (sym (h .any .ensures) ∙ c .before .before .before .if1 .taken) (c .with .ensures))
+    (λ c. let s = c .before .before .args in seen-none (s .k) (s .a) (s .mine) (sym (c .before .any .ensures) ∙ c .if1 .left)))

@@ -1,0 +1,233 @@
+// Orders as rows of sets: row a of thread p holds the events that come after a in p's order.
+ghost use mathlib.Core.Path.{_≡_};
+ghost use mathlib.Core.Bool.{true, not, _&&_, _||_};
+ghost use Prim.Native.Nat.{ℕ, _+_, _*_, _<_, _≤_};
+ghost use lib.Dec.{eqb, ltb};
+ghost use lib.ListN.{getD, length};
+ghost use Rattle.finite.specs.Tests.{all, some, _⇒_};
+ghost use Rattle.bits.specs.Bit.{bit};
+ghost use Rattle.model.specs.Limits.{mostThreads, mostAddresses, mostEvents};
+ghost use Rattle.rows.specs.Sets.{Set, Sets, rowIn, orderIn, setIn};
+ghost use Rattle.rows.specs.May.{sees};
+use case::Case;
+
+// The row of event a in thread p's order.
+pub fn row(rows: &[u64; Case::MOST_THREADS * Case::MOST_EVENTS], p: usize, a: usize) -> u64
+    requires { ⌜ p < mostThreads ⌝ }
+    requires { ⌜ a < mostEvents ⌝ }
+    ensures { λ r. ⌜ r ≡ rowIn (now (rows .entry)) p a ⌝ }
+{
+    rows[p * Case::MOST_EVENTS + a]
+}
+
+// The set where the test passes, else none.
+pub fn where_so(test: bool, set: u64) -> u64
+    ensures { λ r. ⌜ Set r (λ e. test && bit set e) ⌝ }
+{
+    if test { set } else { 0 }
+}
+
+// The set of one event.
+pub fn alone(i: usize) -> u64
+    requires { ⌜ i < mostEvents ⌝ }
+    ensures { λ r. ⌜ Set r (λ e. eqb e i) ⌝ }
+{
+    bits::with(0, i)
+}
+
+// The set without event i.
+pub fn without(set: u64, i: usize) -> u64
+    requires { ⌜ i < mostEvents ⌝ }
+    ensures { λ r. ⌜ Set r (λ e. bit set e && not (eqb e i)) ⌝ }
+{
+    bits::with(set, i) ^ bits::with(0, i)
+}
+
+// What comes after event b, if it is in the set.
+fn after_one(
+    rows: &[u64; Case::MOST_THREADS * Case::MOST_EVENTS],
+    p: usize,
+    set: u64,
+    b: usize,
+) -> u64
+    requires { ⌜ p < mostThreads ⌝ }
+    requires { ⌜ b < mostEvents ⌝ }
+    ensures { λ r. ⌜ Set r (λ e. bit set b && orderIn (now (rows .entry)) p b e) ⌝ }
+{
+    where_so(bits::has(set, b), row(rows, p, b))
+}
+
+// What comes after some event of the set, in p's order.
+pub fn after(
+    rows: &[u64; Case::MOST_THREADS * Case::MOST_EVENTS],
+    k: usize,
+    p: usize,
+    set: u64,
+) -> u64
+    requires { ⌜ k ≤ mostEvents ⌝ }
+    requires { ⌜ p < mostThreads ⌝ }
+    ensures { λ r. ⌜ Set r (λ e. some k (λ b. bit set b && orderIn (now (rows .entry)) p b e)) ⌝ }
+{
+    let mut found: u64 = 0;
+    for b in 0..k {
+        found = found | after_one(rows, p, set, b);
+    }
+    found
+}
+
+// Event a, if it comes before b.
+fn before_one(
+    rows: &[u64; Case::MOST_THREADS * Case::MOST_EVENTS],
+    p: usize,
+    b: usize,
+    a: usize,
+) -> u64
+    requires { ⌜ p < mostThreads ⌝ }
+    requires { ⌜ b < mostEvents ⌝ }
+    requires { ⌜ a < mostEvents ⌝ }
+    ensures { λ r. ⌜ Set r (λ e. orderIn (now (rows .entry)) p a b && eqb e a) ⌝ }
+{
+    where_so(bits::has(row(rows, p, a), b), alone(a))
+}
+
+// What comes before event b, in p's order.
+pub fn before(
+    rows: &[u64; Case::MOST_THREADS * Case::MOST_EVENTS],
+    k: usize,
+    p: usize,
+    b: usize,
+) -> u64
+    requires { ⌜ k ≤ mostEvents ⌝ }
+    requires { ⌜ p < mostThreads ⌝ }
+    requires { ⌜ b < mostEvents ⌝ }
+    ensures { λ r. ⌜ Set r (λ e. ltb e k && orderIn (now (rows .entry)) p e b) ⌝ }
+{
+    let mut found: u64 = 0;
+    for a in 0..k {
+        found = found | before_one(rows, p, b, a);
+    }
+    found
+}
+
+// What comes after event a in some thread's order.
+pub fn after_anywhere(
+    rows: &[u64; Case::MOST_THREADS * Case::MOST_EVENTS],
+    n: usize,
+    a: usize,
+) -> u64
+    requires { ⌜ n ≤ mostThreads ⌝ }
+    requires { ⌜ a < mostEvents ⌝ }
+    ensures { λ r. ⌜ Set r (λ e. some n (λ p. orderIn (now (rows .entry)) p a e)) ⌝ }
+{
+    let mut found: u64 = 0;
+    for p in 0..n {
+        found = found | row(rows, p, a);
+    }
+    found
+}
+
+// Whether some event below k is in the set.
+pub fn any(set: u64, k: usize) -> bool
+    requires { ⌜ k ≤ mostEvents ⌝ }
+    ensures { λ r. ⌜ r ≡ some k (bit set) ⌝ }
+{
+    if bits::both(set, bits::below(k)) == 0 {
+        false
+    } else {
+        true
+    }
+}
+
+// The events of a's row and, if there are any, a.
+fn seen_one(mine: u64, k: usize, a: usize) -> u64
+    requires { ⌜ k ≤ mostEvents ⌝ }
+    requires { ⌜ a < k ⌝ }
+    ensures { λ r. ⌜ Set r (λ e. ltb e k && (bit mine e || (eqb e a && some k (bit mine)))) ⌝ }
+{
+    if any(mine, k) {
+        bits::with(bits::both(mine, bits::below(k)), a)
+    } else {
+        0
+    }
+}
+
+// The events in V(p).
+pub fn seen(rows: &[u64; Case::MOST_THREADS * Case::MOST_EVENTS], k: usize, p: usize) -> u64
+    requires { ⌜ k ≤ mostEvents ⌝ }
+    requires { ⌜ p < mostThreads ⌝ }
+    ensures { λ r. ⌜ Set r (λ e. ltb e k && sees k (orderIn (now (rows .entry))) p e) ⌝ }
+{
+    let mut found: u64 = 0;
+    for a in 0..k {
+        found = found | seen_one(row(rows, p, a), k, a);
+    }
+    found
+}
+
+// Event e, if the byte x stands there.
+fn labelled_one(bytes: &[u8; Case::MOST_EVENTS], x: u8, e: usize) -> u64
+    requires { ⌜ e < mostEvents ⌝ }
+    ensures { λ r. ⌜ Set r (λ i. eqb (getD (now (bytes .entry)) e 0) x && eqb i e) ⌝ }
+{
+    where_so(bytes[e] == x, alone(e))
+}
+
+// The events at which the byte x stands.
+pub fn labelled(bytes: &[u8; Case::MOST_EVENTS], k: usize, x: u8) -> u64
+    requires { ⌜ k ≤ mostEvents ⌝ }
+    ensures { λ r. ⌜ Set r (λ e. ltb e k && eqb (getD (now (bytes .entry)) e 0) x) ⌝ }
+{
+    let mut found: u64 = 0;
+    for e in 0..k {
+        found = found | labelled_one(bytes, x, e);
+    }
+    found
+}
+
+// By label, the events of the set at which it stands.
+pub fn by_label(bytes: &[u8; Case::MOST_EVENTS], k: usize, set: u64) -> [u64; Case::MOST_THREADS]
+    requires { ⌜ k ≤ mostEvents ⌝ }
+    ensures { λ r. ⌜ Sets mostThreads r (λ x e. bit set e && (ltb e k && eqb (getD (now (bytes .entry)) e 0) x)) ⌝ }
+{
+    let mut out = [0u64; Case::MOST_THREADS];
+    for x in 0..Case::MOST_THREADS {
+        out[x] = bits::both(set, labelled(bytes, k, x as u8));
+    }
+    out
+}
+
+// What stands at event e's label, if e is in the set.
+fn at_label(
+    sets: &[u64; Case::MOST_ADDRESSES],
+    bytes: &[u8; Case::MOST_EVENTS],
+    set: u64,
+    e: usize,
+) -> u64
+    requires { ⌜ e < mostEvents ⌝ }
+    requires { ⌜ (bit set e ≡ true → getD (now bytes) e 0 < mostAddresses) ⌝ }
+    ensures { λ r. ⌜ Set r (λ i. bit set e && setIn (now (sets .entry)) (getD (now (bytes .entry)) e 0) i) ⌝ }
+{
+    if bits::has(set, e) {
+        sets[bytes[e] as usize]
+    } else {
+        0
+    }
+}
+
+// By event of the set, what stands at its label.
+pub fn by_event(
+    sets: &[u64; Case::MOST_ADDRESSES],
+    bytes: &[u8; Case::MOST_EVENTS],
+    k: usize,
+    set: u64,
+) -> [u64; Case::MOST_EVENTS]
+    requires { ⌜ k ≤ mostEvents ⌝ }
+    requires { ⌜ ((e : ℕ) → e < k → bit set e ≡ true → getD (now bytes) e 0 < mostAddresses) ⌝ }
+    ensures { λ r. ⌜ Sets k r (λ e i. bit set e && setIn (now (sets .entry)) (getD (now (bytes .entry)) e 0) i) ⌝ }
+{
+    let mut out = [0u64; Case::MOST_EVENTS];
+    for e in 0..k {
+        out[e] = at_label(sets, bytes, set, e);
+    }
+    out
+}

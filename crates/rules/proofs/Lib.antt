@@ -1,0 +1,3 @@
+pub mod Means
+pub mod Same
+pub mod Last

@@ -1,0 +1,383 @@
+-- The rules' tests by a struct's rows and sets are the rules of the case that it means.
+-- Assumes nothing.
+use Prim.Native.Nat.{ℕ, zero, suc, _+_, _*_, _≤_, _<_}
+use native.Mathlib.Nat.{lt-of-lt-of-le}
+use native.Mathlib.Omega.{arith}
+use mathlib.Core.Path.{_≡_, refl, sym, ap, ap₂, _∙_, subst}
+use mathlib.Core.Bool.{Bool, true, false, not, _&&_, _||_, true≢false, false≢true}
+use mathlib.Core.List.{List, []}
+use lib.Dec.{eqb, ltb}
+use lib.ListN.{getD}
+use lib.Bits.{bitOr}
+use borrow.Author.Tests.{eqb-true, eq-eqb, ltb-true, lt-ltb, not-true, not-false}
+use Rattle.finite.specs.Tests.{all, some, count, _⇒_}
+use Rattle.finite.specs.Lists.{table}
+use Rattle.finite.proofs.Tests.{iff, and-l, and-r, and-i, count-same, all-same, some-same}
+use Rattle.finite.proofs.Lists.{table-get}
+use Rattle.bits.specs.Bit.{bit}
+use Rattle.bits.proofs.Bits.{bit-or}
+use Rattle.model.specs.Limits.{mostThreads, mostAddresses, mostEvents}
+use Rattle.model.specs.Case.{bare, load, store, sync}
+use Rattle.model.specs.Record.{storeTo}
+use Rattle.model.specs.Rules.{Model, PPCw, PPCs, first, kind, thread, address, value, initial, isLoad, isStore, isBarrier, of, oneAddress, storeFor, before, everywhere, written, seen, readsFrom, judged, orElse, rule11, rule12, rule13, rule14, rule15, rule16, rule17, rule18, verdict}
+use Rattle.case.specs.declared.Case.{Case as Held}
+use Rattle.case.specs.Held.{caseOf, eventsOf}
+use Rattle.case.specs.Sound.{Sound}
+use Rattle.rows.specs.Sets.{Set, Sets, orderIn, setIn, storeIn}
+use Rattle.rows.specs.May.{sees, mustRead, may11, may12, may13, may14, may15, may16, may17, may18}
+use Rattle.orders.specs.Parts.{writesIn, writtenIn}
+use Rattle.values.specs.Parts.{equalIn, threadIn}
+use Rattle.rules.specs.declared.EventSets.{EventSets}
+use Rattle.rules.specs.Verdict.{Agrees, modelOf, chosenIn, judgedIn, freshIn, orderVerdict, valueVerdict, barrierVerdict}
+use Rattle.rules.proofs.Means.{kind-in, thread-in, address-in, value-in, initial-in, before-in, load-in, store-in, barrier-in, of-in, load-full, store-full, full-kind, not-not, eqb-sym}
+
+-- under a test
+under : (x x′ : Bool) {y y′ : Bool} → x ≡ x′ → (x′ ≡ true → y ≡ y′) → (x ⇒ y) ≡ (x′ ⇒ y′)
+under x x′ {y} {y′} h f = ap (λ t. t ⇒ y) h ∙ go x′ f
+  where
+    go : (b : Bool) → (b ≡ true → y ≡ y′) → (b ⇒ y) ≡ (b ⇒ y′)
+    go true f = f refl
+    go false f = refl
+
+module _ (c : Held) (g : EventSets) (sound : Sound c) (agree : Agrees (caseOf c) g) where
+  pub same11 : may11 (c .threads) (c .events) (orderIn (c .rows)) (orderIn (c .rows)) ≡ rule11 (caseOf c)
+  unfolding may11 rule11 caseOf
+  same11 =
+      let o = before-in c in
+      all-same (c .threads) _ _ (λ p lp. all-same (c .events) _ _ (λ a la.
+      ap₂ (λ x y. not x && y) (o p lp a la a la)
+      (all-same (c .events) _ _ (λ b lb. ap₂ (λ x y. x ⇒ y) (o p lp a la b lb)
+      (all-same (c .events) _ _ (λ d ld. ap₂ (λ x y. x ⇒ y) (o p lp b lb d ld) (o p lp a la d ld)))))))
+
+  pub same12 : may12 (c .threads) (c .events) (setIn (g .own)) (orderIn (c .rows)) ≡ rule12 (caseOf c)
+  unfolding may12 rule12 caseOf
+  same12 =
+      let o = before-in c in
+      let own = agree .own in
+      all-same (c .threads) _ _ (λ p lp. all-same (c .events) _ _ (λ a la.
+      ap₂ (λ x y. x ⇒ y) (own p lp a la)
+      (all-same (c .events) _ _ (λ b lb. ap₂ (λ x y. (x && not (eqb a b)) ⇒ y) (own p lp b lb)
+      (ap₂ (λ x y. x || y) (o p lp a la b lb) (o p lp b lb a la))))))
+
+  pub same13 : may13 (c .threads) (c .events) (setIn (g .own)) (bit (g .syncs)) (setIn (g .partners)) (orderIn (c .rows)) ≡ rule13 (caseOf c)
+  unfolding may13 rule13 caseOf
+  same13 =
+      let o = before-in c in
+      let own = agree .own in
+      let sync′ = agree .barrier in
+      all-same (c .threads) _ _ (λ p lp. all-same (c .events) _ _ (λ b lb.
+      ap₂ (λ x y. x ⇒ y) (own p lp b lb)
+      (all-same b _ _ (λ a lab.
+      let la : a < c .events = omega arith in
+      ap₂ (λ x y. x ⇒ y)
+      (ap₂ (λ x y. x && y) (own p lp a la) (ap₂ (λ x y. x || y) (ap₂ (λ x y. x || y) (sync′ a la) (sync′ b lb)) (agree .partner a la b lb)))
+      (o p lp a la b lb)))))
+
+  pub store-for : (l : ℕ) → l < c .events → (s : ℕ) → s < c .events → storeIn (g .stores) (g .partners) l s ≡ storeFor (caseOf c) l s
+  unfolding storeFor caseOf
+  store-for l ll s ls = ap₂ (λ x y. x && y) (agree .store s ls) (agree .partner l ll s ls)
+
+  -- a store's address
+  store-kind : (a : ℕ) → a < c .events → isStore (caseOf c) a ≡ true → bare (getD (c .kind) a 0) ≡ false
+  store-kind a l h = store-full (getD (c .kind) a 0) (sym (store-in c a l) ∙ h)
+
+  load-kind : (a : ℕ) → a < c .events → isLoad (caseOf c) a ≡ true → bare (getD (c .kind) a 0) ≡ false
+  load-kind a l h = load-full (getD (c .kind) a 0) (sym (load-in c a l) ∙ h)
+
+  no-barrier : (a : ℕ) → a < c .events → bare (getD (c .kind) a 0) ≡ false → isBarrier (caseOf c) a ≡ false
+  unfolding isBarrier
+  no-barrier a l h = ap (λ (x : ℕ). eqb x sync) (kind-in c a l) ∙ h
+
+  -- the stores to the address of store a
+  stores-to : (a : ℕ) → a < c .events → isStore (caseOf c) a ≡ true → (e : ℕ) → e < c .events
+      → storeIn (g .stores) (g .partners) a e ≡ storeTo (caseOf c .events) (address (caseOf c) a) e
+  unfolding storeFor oneAddress storeTo isStore kind address
+  stores-to a la h e le = store-for a la e le ∙ plain (isStore (caseOf c) e) refl
+    where
+      plain : (b : Bool) → isStore (caseOf c) e ≡ b → storeFor (caseOf c) a e ≡ storeTo (caseOf c .events) (address (caseOf c) a) e
+      plain true s =
+          ap₂ (λ x y. isStore (caseOf c) e && (not x && not y && eqb (address (caseOf c) a) (address (caseOf c) e)))
+          (no-barrier a la (store-kind a la h)) (no-barrier e le (store-kind e le s))
+          ∙ ap (λ x. isStore (caseOf c) e && x) (eqb-sym (address (caseOf c) a) (address (caseOf c) e))
+      plain false s =
+          ap (λ x. x && (not (isBarrier (caseOf c) a) && not (isBarrier (caseOf c) e) && eqb (address (caseOf c) a) (address (caseOf c) e))) s
+          ∙ ap (λ x. x && eqb (address (caseOf c) e) (address (caseOf c) a)) (sym s)
+
+  -- the write order of its address
+  pub written-in : (a : ℕ) → a < c .events → isStore (caseOf c) a ≡ true → (b : ℕ)
+      → writtenIn (c .events) (g .stores) (g .partners) (c .address) (c .writes) a b ≡ written (caseOf c) a b
+  unfolding written caseOf
+  written-in a la h b =
+      let x : address (caseOf c) a ≡ getD (c .address) a 0 = address-in c a la (store-kind a la h) in
+      let here = sound .address a la (store-kind a la h) in
+      ap (first a b)
+      (ap (λ (i : ℕ). writesIn (c .writes) (getD (c .address) a 0) i)
+      (count-same (c .events) _ _ (stores-to a la h) ∙ ap (λ (y : ℕ). count (c .events) (storeTo (caseOf c .events) y)) x)
+      ∙ sym (table-get (c .addresses) (λ y. writesIn (c .writes) y (count (c .events) (storeTo (caseOf c .events) y))) (getD (c .address) a 0) [] here)
+      ∙ ap (λ (y : ℕ). getD (caseOf c .writes) y []) (sym x))
+
+  pub same14 : may14 (c .threads) (c .events) (bit (g .stores)) (storeIn (g .stores) (g .partners)) (writtenIn (c .events) (g .stores) (g .partners) (c .address) (c .writes)) (orderIn (c .rows))
+      ≡ rule14 (caseOf c)
+  unfolding may14 rule14 caseOf
+  same14 =
+      let o = before-in c in
+      all-same (c .threads) _ _ (λ p lp. all-same (c .events) _ _ (λ a la.
+      under _ _ (agree .store a la) (λ h.
+      all-same (c .events) _ _ (λ b lb.
+      ap₂ (λ x y. x ⇒ y) (ap₂ (λ x y. x && y) (store-for a la b lb) (o p lp a la b lb)) (written-in a la h b)))))
+
+  -- what 14's test requires
+  pub store-address : (a : ℕ) → a < c .events → bit (g .stores) a ≡ true → getD (c .address) a 0 < mostAddresses
+  unfolding caseOf
+  store-address a la h =
+      lt-of-lt-of-le (sound .address a la (store-kind a la (sym (agree .store a la) ∙ h))) (sound .addresses-most)
+
+  pub store-written : (a : ℕ) → a < c .events → bit (g .stores) a ≡ true → (i : ℕ) → i < count (c .events) (storeIn (g .stores) (g .partners) a)
+      → getD (c .writes) (getD (c .address) a 0 * mostEvents + i) 0 < c .events
+  unfolding caseOf
+  store-written a la h i l =
+      let s : isStore (caseOf c) a ≡ true = sym (agree .store a la) ∙ h in
+      sound .written (getD (c .address) a 0) (sound .address a la (store-kind a la s)) i
+      (subst (λ (j : ℕ). i < j) (count-same (c .events) _ _ (stores-to a la s) ∙ ap (λ (y : ℕ). count (c .events) (storeTo (caseOf c .events) y)) (address-in c a la (store-kind a la s))) l)
+
+  -- ---- 15 and 16
+
+  pub load-address : (a : ℕ) → a < c .events → bit (g .loads) a ≡ true → getD (c .address) a 0 < mostAddresses
+  unfolding caseOf
+  load-address a la h =
+      lt-of-lt-of-le (sound .address a la (load-kind a la (sym (agree .load a la) ∙ h))) (sound .addresses-most)
+
+  sees-in : (p : ℕ) → p < c .threads → (e : ℕ) → e < c .events → sees (c .events) (orderIn (c .rows)) p e ≡ seen (caseOf c) p e
+  unfolding sees seen caseOf
+  sees-in p lp e le =
+      some-same (c .events) _ _ (λ x lx. ap₂ (λ s t. s || t) (before-in c p lp e le x lx) (before-in c p lp x lx e le))
+
+  module _ {fresh : ℕ} {those judge : List ℕ} (strong : Bool)
+      (f : Set fresh (λ l. ltb l (c .events) && freshIn (g .loads) (c .value) (c .address) (c .initial) l))
+      (v : Sets (c .threads) those (λ p e. ltb e (c .events) && sees (c .events) (orderIn (c .rows)) p e))
+      (j : Sets (c .threads) judge (judgedIn strong (g .loads) (g .own) those)) where
+    seen-in : (p : ℕ) → p < c .threads → (e : ℕ) → e < c .events → setIn those p e ≡ seen (caseOf c) p e
+    seen-in p lp e le = v .has p lp e ∙ ap (λ t. t && sees (c .events) (orderIn (c .rows)) p e) (lt-ltb e (c .events) le) ∙ sees-in p lp e le
+
+    judged-in : (p : ℕ) → p < c .threads → (l : ℕ) → l < c .events → setIn judge p l ≡ judged (caseOf c) (modelOf strong) p l
+    unfolding judged caseOf
+    judged-in p lp l ll = j .has p lp l ∙ by strong
+      where
+        by : (b : Bool) → judgedIn b (g .loads) (g .own) those p l ≡ judged (caseOf c) (modelOf b) p l
+        by true = ap₂ (λ s t. s && t) (agree .load l ll) (seen-in p lp l ll)
+        by false = ap₂ (λ s t. s && t) (agree .load l ll) (agree .own p lp l ll)
+
+    judged-load : (w : Model) (p l : ℕ) → judged (caseOf c) w p l ≡ true → isLoad (caseOf c) l ≡ true
+    unfolding judged
+    judged-load PPCw p l h = and-l (isLoad (caseOf c) l) (of (caseOf c) p l) h
+    judged-load PPCs p l h = and-l (isLoad (caseOf c) l) (seen (caseOf c) p l) h
+
+    fresh-in : (l : ℕ) → l < c .events → isLoad (caseOf c) l ≡ true → bit fresh l ≡ eqb (value (caseOf c) l) (initial (caseOf c) (address (caseOf c) l))
+    unfolding caseOf
+    fresh-in l ll h =
+        let full = load-kind l ll h in
+        f .has l
+        ∙ ap₂ (λ s t. s && (t && eqb (getD (c .value) l 0) (getD (c .initial) (getD (c .address) l 0) 0))) (lt-ltb l (c .events) ll) (agree .load l ll ∙ h)
+        ∙ ap₂ (λ (x y : ℕ). eqb x y) (sym (value-in c l ll full))
+        (sym (initial-in c (getD (c .address) l 0) (sound .address l ll full)) ∙ ap (initial (caseOf c)) (sym (address-in c l ll full)))
+
+    pub same15 : may15 (c .threads) (c .events) (setIn judge) (bit fresh) (storeIn (g .stores) (g .partners)) (orderIn (c .rows)) ≡ rule15 (caseOf c) (modelOf strong)
+    unfolding may15 rule15 caseOf
+    same15 =
+        all-same (c .threads) _ _ (λ p lp. all-same (c .events) _ _ (λ l ll.
+        under _ _ (judged-in p lp l ll) (λ h.
+        ap₂ (λ s t. s || t) (fresh-in l ll (judged-load (modelOf strong) p l h))
+        (some-same (c .events) _ _ (λ s ls. ap₂ (λ x y. x && y) (store-for l ll s ls) (before-in c p lp s ls l ll))))))
+
+    equal-in : (l : ℕ) → l < c .events → isLoad (caseOf c) l ≡ true → (s : ℕ) → s < c .events → isStore (caseOf c) s ≡ true
+        → equalIn (c .value) l s ≡ eqb (value (caseOf c) l) (value (caseOf c) s)
+    equal-in l ll hl s ls hs = ap₂ (λ (x y : ℕ). eqb x y) (sym (value-in c l ll (load-kind l ll hl))) (sym (value-in c s ls (store-kind s ls hs)))
+
+    stored : (l s : ℕ) → storeFor (caseOf c) l s ≡ true → isStore (caseOf c) s ≡ true
+    unfolding storeFor
+    stored l s h = and-l (isStore (caseOf c) s) (oneAddress (caseOf c) l s) h
+
+    pub same16 : may16 (c .threads) (c .events) (setIn judge) (setIn those) (storeIn (g .stores) (g .partners)) (equalIn (c .value)) (orderIn (c .rows)) ≡ rule16 (caseOf c) (modelOf strong)
+    unfolding may16 rule16 caseOf
+    same16 =
+        let o = before-in c in
+        all-same (c .threads) _ _ (λ p lp. all-same (c .events) _ _ (λ l ll.
+        under _ _ (judged-in p lp l ll) (λ h. all-same (c .events) _ _ (λ s ls.
+        under _ _ (ap₂ (λ x y. x && y) (store-for l ll s ls) (seen-in p lp s ls)) (λ t.
+        ap₂ (λ x y. x || y)
+        (ap₂ (λ x y. x || y)
+        (some-same (c .events) _ _ (λ x lx.
+        ap₂ (λ u w. u && w) (ap₂ (λ u w. u && not (eqb x s) && w) (store-for l ll x lx) (o p lp s ls x lx)) (o p lp x lx l ll)))
+        (equal-in l ll (judged-load (modelOf strong) p l h) s ls (stored l s (and-l (storeFor (caseOf c) l s) (seen (caseOf c) p s) t))))
+        (o p lp l ll s ls))))))
+
+  -- ---- 17 and 18
+
+  pub same17 : may17 (c .threads) (c .events) (setIn (g .own)) (bit (g .syncs)) (orderIn (c .rows)) (orderIn (c .rows)) ≡ rule17 (caseOf c)
+  unfolding may17 rule17 everywhere caseOf
+  same17 =
+      let o = before-in c in
+      all-same (c .threads) _ _ (λ p lp. all-same (c .events) _ _ (λ f lf.
+      ap₂ (λ x y. x ⇒ y) (ap₂ (λ x y. x && y) (agree .barrier f lf) (agree .own p lp f lf))
+      (all-same (c .events) _ _ (λ e le. ap₂ (λ x y. x ⇒ y) (o p lp e le f lf)
+      (all-same (c .events) _ _ (λ h lh. ap₂ (λ x y. x ⇒ y) (ap₂ (λ x y. x && y) (agree .own p lp h lh) (o p lp f lf h lh))
+      (all-same (c .threads) _ _ (λ q lq. o q lq e le h lh))))))))
+
+  -- the order of an event's thread
+  at-thread : (l : ℕ) → l < c .events → (a : ℕ) → a < c .events → (b : ℕ) → b < c .events
+      → orderIn (c .rows) (threadIn (c .thread) l) a b ≡ before (caseOf c) (thread (caseOf c) l) a b
+  at-thread l ll a la b lb =
+      before-in c (getD (c .thread) l 0) (sound .thread l ll) a la b lb ∙ ap (λ (t : ℕ). before (caseOf c) t a b) (sym (thread-in c l ll))
+
+  pub thread-most : (l : ℕ) → l < c .events → getD (c .thread) l 0 < mostThreads
+  thread-most l ll = lt-of-lt-of-le (sound .thread l ll) (sound .threads-most)
+
+  must-read-in : (l : ℕ) → l < c .events → (s : ℕ) → s < c .events
+      → mustRead (c .events) (bit (g .loads)) (storeIn (g .stores) (g .partners)) (threadIn (c .thread)) (orderIn (c .rows)) (orderIn (c .rows)) l s ≡ readsFrom (caseOf c) l s
+  unfolding mustRead readsFrom caseOf
+  must-read-in l ll s ls =
+      let o = at-thread l ll in
+      ap₂ (λ x y. x && y)
+      (ap₂ (λ x y. x && y) (ap₂ (λ x y. x && y) (agree .load l ll) (store-for l ll s ls)) (o s ls l ll))
+      (all-same (c .events) _ _ (λ x lx.
+      ap₂ (λ u w. u ⇒ w) (ap₂ (λ u w. u && not (eqb x s) && w) (store-for l ll x lx) (o x lx l ll)) (o x lx s ls)))
+
+  pub same18 : {read : List ℕ}
+      → Sets (c .events) read (λ l s. ltb s (c .events)
+      && mustRead (c .events) (bit (g .loads)) (storeIn (g .stores) (g .partners)) (threadIn (c .thread)) (orderIn (c .rows)) (orderIn (c .rows)) l s)
+      → may18 (c .threads) (c .events) (setIn (g .own)) (bit (g .syncs)) (bit (g .stores)) (setIn read) (threadIn (c .thread)) (orderIn (c .rows)) (orderIn (c .rows)) ≡ rule18 (caseOf c)
+  unfolding may18 rule18 everywhere caseOf
+  same18 {read} r =
+      let o = before-in c in
+      all-same (c .threads) _ _ (λ p lp. all-same (c .events) _ _ (λ f lf.
+      ap₂ (λ x y. x ⇒ y) (ap₂ (λ x y. x && y) (agree .barrier f lf) (agree .own p lp f lf))
+      (all-same (c .events) _ _ (λ s ls.
+      ap₂ (λ x y. x ⇒ y) (ap₂ (λ x y. x && y) (ap₂ (λ x y. x && y) (agree .store s ls) (agree .own p lp s ls)) (o p lp f lf s ls))
+      (all-same (c .events) _ _ (λ l ll.
+      ap₂ (λ x y. x ⇒ y)
+      (r .has l ll s ∙ ap (λ t. t && mustRead (c .events) (bit (g .loads)) (storeIn (g .stores) (g .partners)) (threadIn (c .thread)) (orderIn (c .rows)) (orderIn (c .rows)) l s) (lt-ltb s (c .events) ls) ∙ must-read-in l ll s ls)
+      (all-same (c .events) _ _ (λ h lh. ap₂ (λ x y. x ⇒ y) (at-thread l ll l ll h lh)
+      (all-same (c .events) _ _ (λ e le. ap₂ (λ x y. x ⇒ y) (o p lp e le f lf)
+      (all-same (c .threads) _ _ (λ q lq. o q lq e le h lh))))))))))))
+
+-- ---- the verdict, rule by rule
+
+-- a test's answer to a rule
+pub broken : {x y z : Bool} → x ≡ y → y ≡ z → not x ≡ true → z ≡ false
+broken {x} h e t = sym e ∙ sym h ∙ not-true x t
+
+pub kept : {x y z : Bool} → x ≡ y → y ≡ z → not x ≡ false → z ≡ true
+kept {x} h e t = sym e ∙ sym h ∙ not-false x t
+
+-- the first of the tests
+module _ (a : Bool) (i rest : ℕ) where
+  pub first-fails : a ≡ false → i ≡ orElse a i rest
+  first-fails h = ap (λ t. orElse t i rest) (sym h)
+
+  pub first-holds : a ≡ true → rest ≡ orElse a i rest
+  first-holds h = ap (λ t. orElse t i rest) (sym h)
+
+-- the verdict by its three parts
+module _ (c : Held) (w : Model) where
+  abbrev from15 : ℕ
+  from15 =
+      orElse (rule15 (caseOf c) w) 15 (orElse (rule16 (caseOf c) w) 16 (orElse (rule17 (caseOf c)) 17 (orElse (rule18 (caseOf c)) 18 0)))
+
+  pub by-order : (orderVerdict (caseOf c) ≡ 0 → ⊥) → orderVerdict (caseOf c) ≡ verdict (caseOf c) w
+  unfolding orderVerdict verdict
+  by-order h = go (rule11 (caseOf c)) (rule12 (caseOf c)) (rule13 (caseOf c)) (rule14 (caseOf c)) from15 h
+    where
+      go : (x y z t : Bool) (rest : ℕ) → (orElse x 11 (orElse y 12 (orElse z 13 (orElse t 14 0))) ≡ 0 → ⊥)
+          → orElse x 11 (orElse y 12 (orElse z 13 (orElse t 14 0))) ≡ orElse x 11 (orElse y 12 (orElse z 13 (orElse t 14 rest)))
+      go false y z t rest h = refl
+      go true false z t rest h = refl
+      go true true false t rest h = refl
+      go true true true false rest h = refl
+      go true true true true rest h = absurd (h refl)
+
+  past-order : orderVerdict (caseOf c) ≡ 0 → from15 ≡ verdict (caseOf c) w
+  unfolding orderVerdict verdict
+  past-order h = go (rule11 (caseOf c)) (rule12 (caseOf c)) (rule13 (caseOf c)) (rule14 (caseOf c)) h
+    where
+      go : (x y z t : Bool) {rest : ℕ} → orElse x 11 (orElse y 12 (orElse z 13 (orElse t 14 0))) ≡ 0
+          → rest ≡ orElse x 11 (orElse y 12 (orElse z 13 (orElse t 14 rest)))
+      go false y z t h = absurd (omega arith)
+      go true false z t h = absurd (omega arith)
+      go true true false t h = absurd (omega arith)
+      go true true true false h = absurd (omega arith)
+      go true true true true h = refl
+
+  pub by-value : orderVerdict (caseOf c) ≡ 0 → (valueVerdict (caseOf c) w ≡ 0 → ⊥) → valueVerdict (caseOf c) w ≡ verdict (caseOf c) w
+  unfolding valueVerdict
+  by-value o h = go (rule15 (caseOf c) w) (rule16 (caseOf c) w) (orElse (rule17 (caseOf c)) 17 (orElse (rule18 (caseOf c)) 18 0)) h ∙ past-order o
+    where
+      go : (x y : Bool) (rest : ℕ) → (orElse x 15 (orElse y 16 0) ≡ 0 → ⊥) → orElse x 15 (orElse y 16 0) ≡ orElse x 15 (orElse y 16 rest)
+      go false y rest h = refl
+      go true false rest h = refl
+      go true true rest h = absurd (h refl)
+
+  pub by-barrier : orderVerdict (caseOf c) ≡ 0 → valueVerdict (caseOf c) w ≡ 0 → barrierVerdict (caseOf c) ≡ verdict (caseOf c) w
+  unfolding valueVerdict barrierVerdict
+  by-barrier o h = go (rule15 (caseOf c) w) (rule16 (caseOf c) w) h ∙ past-order o
+    where
+      go : (x y : Bool) {rest : ℕ} → orElse x 15 (orElse y 16 0) ≡ 0 → rest ≡ orElse x 15 (orElse y 16 rest)
+      go false y h = absurd (omega arith)
+      go true false h = absurd (omega arith)
+      go true true h = refl
+
+-- ---- the sets of a case's events
+
+module _ (c : Held) (sound : Sound c) {l s : ℕ}
+    (loads : Set l (λ e. ltb e (c .events) && eqb (getD (c .kind) e 0) load))
+    (stores : Set s (λ e. ltb e (c .events) && eqb (getD (c .kind) e 0) store)) where
+  -- an event below k
+  here : (e : ℕ) → e < c .events → (x : Bool) → (ltb e (c .events) && x) ≡ x
+  here e le x = ap (λ t. t && x) (lt-ltb e (c .events) le)
+
+  access-in : (e : ℕ) → e < c .events → bit (bitOr l s) e ≡ not (bare (getD (c .kind) e 0))
+  access-in e le =
+      bit-or l s e
+      ∙ ap₂ (λ x y. x || y) (loads .has e ∙ here e le (eqb (getD (c .kind) e 0) load)) (stores .has e ∙ here e le (eqb (getD (c .kind) e 0) store))
+      ∙ full-kind (getD (c .kind) e 0) (sound .kind e le)
+
+  access-full : (e : ℕ) → e < c .events → bit (bitOr l s) e ≡ true → bare (getD (c .kind) e 0) ≡ false
+  access-full e le h = not-not (bit (bitOr l s) e) (bare (getD (c .kind) e 0)) (access-in e le) h
+
+  pub access-address : (e : ℕ) → e < c .events → bit (bitOr l s) e ≡ true → getD (c .address) e 0 < mostAddresses
+  access-address e le h = lt-of-lt-of-le (sound .address e le (access-full e le h)) (sound .addresses-most)
+
+  pub agrees : {f every : ℕ} {mine partners sharing : List ℕ} → Set f (λ e. ltb e (c .events) && eqb (getD (c .kind) e 0) sync)
+      → Set every (λ e. ltb e (c .events))
+      → Sets mostThreads mine (λ x e. bit every e && (ltb e (c .events) && eqb (getD (c .thread) e 0) x))
+      → Sets mostThreads sharing (λ x e. bit (bitOr l s) e && (ltb e (c .events) && eqb (getD (c .address) e 0) x))
+      → Sets (c .events) partners (λ e i. bit (bitOr l s) e && setIn sharing (getD (c .address) e 0) i) → Agrees (caseOf c) (record { own = mine; loads = l; stores = s; syncs = f; partners = partners })
+  unfolding caseOf oneAddress isBarrier
+  agrees {sharing} syncs all-below own t p = record {
+    own = λ x lx e le.
+        own .has x (lt-of-lt-of-le lx (sound .threads-most)) e
+        ∙ ap (λ t. t && (ltb e (c .events) && eqb (getD (c .thread) e 0) x)) (all-below .has e ∙ lt-ltb e (c .events) le)
+        ∙ here e le (eqb (getD (c .thread) e 0) x) ∙ sym (of-in c x e le);
+    load = λ e le. loads .has e ∙ here e le (eqb (getD (c .kind) e 0) load) ∙ sym (load-in c e le);
+    store = λ e le. stores .has e ∙ here e le (eqb (getD (c .kind) e 0) store) ∙ sym (store-in c e le);
+    barrier = λ e le. syncs .has e ∙ here e le (eqb (getD (c .kind) e 0) sync) ∙ sym (barrier-in c e le);
+    partner = λ a la b lb.
+        p .has a la b ∙ both a la b lb (bit (bitOr l s) a) (bit (bitOr l s) b) refl refl
+        ∙ sym (ap₂ (λ x y. not x && not y && eqb (address (caseOf c) a) (address (caseOf c) b)) (barrier-in c a la) (barrier-in c b lb));
+  }
+    where
+      both : (a : ℕ) → a < c .events → (b : ℕ) → b < c .events → (x y : Bool) → bit (bitOr l s) a ≡ x → bit (bitOr l s) b ≡ y
+          → (bit (bitOr l s) a && setIn sharing (getD (c .address) a 0) b)
+          ≡ (not (bare (getD (c .kind) a 0)) && not (bare (getD (c .kind) b 0)) && eqb (address (caseOf c) a) (address (caseOf c) b))
+      both a la b lb true true x y =
+          ap₂ (λ u v. u && v) x (t .has (getD (c .address) a 0) (access-address a la x) b
+          ∙ ap (λ u. u && (ltb b (c .events) && eqb (getD (c .address) b 0) (getD (c .address) a 0))) y ∙ here b lb (eqb (getD (c .address) b 0) (getD (c .address) a 0)))
+          ∙ eqb-sym (getD (c .address) b 0) (getD (c .address) a 0)
+          ∙ ap₂ (λ (i j : ℕ). eqb i j) (sym (address-in c a la (access-full a la x))) (sym (address-in c b lb (access-full b lb y)))
+          ∙ ap₂ (λ u v. u && v && eqb (address (caseOf c) a) (address (caseOf c) b)) (sym x ∙ access-in a la) (sym y ∙ access-in b lb)
+      both a la b lb true false x y =
+          ap₂ (λ u v. u && v) x (t .has (getD (c .address) a 0) (access-address a la x) b
+          ∙ ap (λ u. u && (ltb b (c .events) && eqb (getD (c .address) b 0) (getD (c .address) a 0))) y)
+          ∙ ap₂ (λ u v. u && v && eqb (address (caseOf c) a) (address (caseOf c) b)) (sym x ∙ access-in a la) (sym y ∙ access-in b lb)
+      both a la b lb false y x e =
+          ap (λ u. u && setIn sharing (getD (c .address) a 0) b) x
+          ∙ ap (λ u. u && not (bare (getD (c .kind) b 0)) && eqb (address (caseOf c) a) (address (caseOf c) b)) (sym x ∙ access-in a la)

@@ -1,0 +1,38 @@
+-- `rules::seen_sets` meets its contract. Assumes nothing.
+use Prim.Native.Nat.{ℕ, _+_, _-_, _*_, _<_, _≤_}
+use borrow.Author.Needs.{needs}
+use native.Mathlib.Omega.{arith}
+use mathlib.Core.Path.{_≡_, refl, sym, ap, ap₂, _∙_, subst}
+use mathlib.Core.Bool.{Bool, true, not, _&&_, _||_}
+use lib.Dec.{eqb, ltb}
+use lib.ListN.{getD}
+use Rattle.finite.specs.Tests.{all, some, _⇒_}
+use Rattle.rows.specs.Sets.{Set, rowIn, orderIn, setIn, storeIn}
+use Rattle.bits.specs.Bit.{bit}
+use borrow.Author.Tests.{eq-eqb, ne-eqb}
+use Rattle.rules.specs.Verdict.{chosenIn, judgedIn, freshIn}
+use Rattle.rows.proofs.Loops.{Filled, unfilled, fills, filled}
+use Rattle.rows.specs.May.{sees}
+use Rattle.rules.proofs.seen_sets.Statement.{statement}
+use Rattle.rules.proofs.seen_sets.Tie as tie
+
+abbrev Inv-loop : tie.InvT-loop
+Inv-loop known n k out₀ p₀ out p = Filled n (λ p e. ltb e k && sees k (orderIn known) p e) p out
+
+abbrev μ-loop : tie.MeasureT-loop
+μ-loop known n k out₀ p₀ out p = n - p
+
+pub seen-sets-spec : {M : Type 1} → statement M
+seen-sets-spec =
+    tie.close
+    (tie.spec
+    Inv-loop
+    μ-loop
+    (λ c. unfilled (search needs))
+    (λ c κs. search needs)
+    (λ c. search needs)
+    (λ c. search needs)
+    (λ c. omega arith)
+    (λ c. omega arith)
+    (λ c. fills (c .before .before .loop .inv) (c .before .loop-test .taken) (c .seen .ensures))
+    (λ c. filled (c .before .loop .inv) (c .loop-test .left)))

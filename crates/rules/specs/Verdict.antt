@@ -1,0 +1,50 @@
+-- A struct's sets against the case that it means, and the parts of its verdict.
+-- Assumes nothing.
+use Prim.Native.Nat.{ℕ, _<_}
+use mathlib.Core.Path.{_≡_}
+use mathlib.Core.Bool.{Bool, true, false, _&&_}
+use mathlib.Core.List.{List}
+use lib.Dec.{eqb, ltb}
+use lib.ListN.{getD}
+use Rattle.bits.specs.Bit.{bit}
+use Rattle.model.specs.Case.{Case}
+use Rattle.model.specs.Rules.{Model, PPCw, PPCs, of, isLoad, isStore, isBarrier, oneAddress, orElse, rule11, rule12, rule13, rule14, rule15, rule16, rule17, rule18}
+use Rattle.rows.specs.Sets.{setIn}
+use Rattle.rules.specs.declared.EventSets.{EventSets}
+
+-- PPCs or PPCw
+abbrev pub modelOf : Bool → Model
+modelOf true = PPCs
+modelOf false = PPCw
+
+-- the sets are the case's
+pub record Agrees (c : Case) (g : EventSets) : Type 0 where
+  pub own : (p : ℕ) → p < c .n → (e : ℕ) → e < c .k → setIn (g .own) p e ≡ of c p e
+  pub load : (e : ℕ) → e < c .k → bit (g .loads) e ≡ isLoad c e
+  pub store : (e : ℕ) → e < c .k → bit (g .stores) e ≡ isStore c e
+  pub barrier : (e : ℕ) → e < c .k → bit (g .syncs) e ≡ isBarrier c e
+  pub partner : (a : ℕ) → a < c .k → (b : ℕ) → b < c .k → setIn (g .partners) a b ≡ oneAddress c a b
+
+-- the loads of those seen, if strong, or else of its own
+abbrev pub chosenIn : Bool → (loads own seen : ℕ) → ℕ → Bool
+chosenIn true loads own seen l = bit loads l && bit seen l
+chosenIn false loads own seen l = bit loads l && bit own l
+
+-- by thread, what 15 and 16 speak of
+abbrev pub judgedIn : Bool → (loads : ℕ) (own seen : List ℕ) → ℕ → ℕ → Bool
+judgedIn strong loads own seen p l = chosenIn strong loads (getD own p 0) (getD seen p 0) l
+
+-- a load that holds the initial value
+abbrev pub freshIn : (loads : ℕ) (values addresses initial : List ℕ) → ℕ → Bool
+freshIn loads values addresses initial l = bit loads l && eqb (getD values l 0) (getD initial (getD addresses l 0) 0)
+
+-- the lowest broken of some rules, or else 0
+module _ (c : Case) where
+  unfoldable pub orderVerdict : ℕ
+  orderVerdict = orElse (rule11 c) 11 (orElse (rule12 c) 12 (orElse (rule13 c) 13 (orElse (rule14 c) 14 0)))
+
+  unfoldable pub valueVerdict : Model → ℕ
+  valueVerdict w = orElse (rule15 c w) 15 (orElse (rule16 c w) 16 0)
+
+  unfoldable pub barrierVerdict : ℕ
+  barrierVerdict = orElse (rule17 c) 17 (orElse (rule18 c) 18 0)

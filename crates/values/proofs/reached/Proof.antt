@@ -1,0 +1,36 @@
+-- `values::reached` meets its contract. Assumes nothing.
+use Prim.Native.Nat.{ℕ, _+_, _-_, _*_, _<_, _≤_}
+use borrow.Author.Needs.{needs}
+use native.Mathlib.Omega.{arith}
+use mathlib.Core.Path.{_≡_, refl, sym, ap, ap₂, _∙_, subst}
+use mathlib.Core.Bool.{Bool, true, not, _&&_, _||_}
+use lib.Dec.{eqb, ltb}
+use lib.ListN.{getD}
+use Rattle.finite.specs.Tests.{all, some, _⇒_}
+use Rattle.rows.specs.Sets.{Set, rowIn, orderIn, setIn, storeIn}
+use Rattle.bits.specs.Bit.{bit}
+use borrow.Author.Tests.{eq-eqb, ne-eqb}
+use Rattle.rows.proofs.Loops.{Passed, begun, fails, passes, ends}
+use Rattle.values.specs.Parts.{equalIn, threadIn, supplied, explained, overwritten, carried, cumulative, mustReadOf, reached, carriedOn}
+use Rattle.rows.proofs.Loops.{United, empty, joins, united}
+use Rattle.values.proofs.reached.Statement.{statement}
+use Rattle.values.proofs.reached.Tie as tie
+
+abbrev Inv-loop : tie.InvT-loop
+Inv-loop read threads known k set found₀ l₀ found l = United k (λ l g. some k (λ s. setIn read l s && bit set s) && orderIn known (threadIn threads l) l g) l found
+
+abbrev μ-loop : tie.MeasureT-loop
+μ-loop read threads known k set found₀ l₀ found l = k - l
+
+pub reached-spec : {M : Type 1} → statement M
+reached-spec =
+    tie.close
+    (tie.spec
+    Inv-loop
+    μ-loop
+    (λ c. search empty)
+    (λ c κs. (search needs, (c .loop-test .taken, c .before .before .pre .1 (c .before .loop .l) (c .loop-test .taken))))
+    (λ c. omega arith)
+    (λ c. omega arith)
+    (λ c. joins (c .before .before .loop .inv) (c .before .loop-test .taken) (c .reached-by .ensures))
+    (λ c. united (c .before .loop .inv) (c .loop-test .left)))

@@ -1,0 +1,40 @@
+-- `values::rule17` meets its contract. Assumes nothing.
+use Prim.Native.Nat.{ℕ, _+_, _-_, _*_, _<_, _≤_}
+use borrow.Author.Needs.{needs}
+use native.Mathlib.Omega.{arith}
+use mathlib.Core.Path.{_≡_, refl, sym, ap, ap₂, _∙_, subst}
+use mathlib.Core.Bool.{Bool, true, not, _&&_, _||_}
+use lib.Dec.{eqb, ltb}
+use lib.ListN.{getD}
+use Rattle.finite.specs.Tests.{all, some, _⇒_}
+use Rattle.rows.specs.Sets.{Set, rowIn, orderIn, setIn, storeIn}
+use Rattle.bits.specs.Bit.{bit}
+use borrow.Author.Tests.{eq-eqb, ne-eqb}
+use Rattle.rows.proofs.Loops.{Passed, begun, fails, passes, ends}
+use Rattle.values.specs.Parts.{equalIn, threadIn, supplied, explained, overwritten, carried, cumulative, mustReadOf, reached, carriedOn}
+use Rattle.rows.specs.May.{may17}
+use Rattle.values.proofs.rule17.Statement.{statement}
+use Rattle.values.proofs.rule17.Tie as tie
+
+abbrev Inv-loop : tie.InvT-loop
+Inv-loop own syncs known asked n k p₀ p = Passed n (λ p. all k (cumulative k n (setIn own p) (bit syncs) (orderIn known p) (orderIn asked))) p
+
+abbrev μ-loop : tie.MeasureT-loop
+μ-loop own syncs known asked n k p₀ p = n - p
+
+pub rule17-spec : {M : Type 1} → statement M
+unfolding may17
+rule17-spec =
+    tie.close
+    (tie.spec
+    Inv-loop
+    μ-loop
+    (λ c. begun)
+    (λ c. search needs)
+    (λ c. search needs)
+    (λ c κs. search needs)
+    (λ c. search fails)
+    (λ c. omega arith)
+    (λ c. omega arith)
+    (λ c. search passes)
+    (λ c. search ends))

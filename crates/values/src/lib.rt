@@ -1,0 +1,603 @@
+// Rules 15 to 18: the values that loads hold, and what barriers carry. `known` holds what a rule presupposes, `asked` what
+// it asks for.
+ghost use mathlib.Core.Path.{_≡_};
+ghost use mathlib.Core.Bool.{true, not, _&&_, _||_};
+ghost use Prim.Native.Nat.{ℕ, _+_, _*_, _<_, _≤_};
+ghost use lib.Dec.{eqb, ltb};
+ghost use lib.ListN.{getD, length};
+ghost use Rattle.finite.specs.Tests.{all, some, _⇒_};
+ghost use Rattle.bits.specs.Bit.{bit};
+ghost use Rattle.model.specs.Limits.{mostThreads, mostAddresses, mostEvents};
+ghost use Rattle.rows.specs.Sets.{Set, Sets, rowIn, orderIn, setIn, storeIn};
+ghost use Rattle.rows.specs.May.{may15, may16, may17, may18, mustRead};
+ghost use Rattle.values.specs.Parts.{equalIn, threadIn, supplied, explained, overwritten, carried as carriedOf, cumulative, mustReadOf, reached as reachedOf, carriedOn};
+use case::Case;
+
+// Load l of those judged holds the initial value, or some store to its address comes before it.
+fn supplied_load(
+    judged: u64,
+    fresh: u64,
+    stores: u64,
+    partners: &[u64; Case::MOST_EVENTS],
+    asked: &[u64; Case::MOST_THREADS * Case::MOST_EVENTS],
+    k: usize,
+    p: usize,
+    l: usize,
+) -> bool
+    requires { ⌜ k ≤ mostEvents ⌝ }
+    requires { ⌜ p < mostThreads ⌝ }
+    requires { ⌜ l < k ⌝ }
+    ensures { λ r. ⌜ r ≡ supplied k (bit judged) (bit fresh) (storeIn stores (now (partners .entry))) (orderIn (now (asked .entry)) p) l ⌝ }
+{
+    if bits::has(judged, l) {
+        if bits::has(fresh, l) {
+            true
+        } else {
+            let sources = bits::both(stores, partners[l]);
+            rows::any(bits::both(sources, rows::before(asked, k, p, l)), k)
+        }
+    } else {
+        true
+    }
+}
+
+// Rule 15 of thread p.
+fn supplied_order(
+    judged: u64,
+    fresh: u64,
+    stores: u64,
+    partners: &[u64; Case::MOST_EVENTS],
+    asked: &[u64; Case::MOST_THREADS * Case::MOST_EVENTS],
+    k: usize,
+    p: usize,
+) -> bool
+    requires { ⌜ k ≤ mostEvents ⌝ }
+    requires { ⌜ p < mostThreads ⌝ }
+    ensures { λ r. ⌜ r ≡ all k (supplied k (bit judged) (bit fresh) (storeIn stores (now (partners .entry))) (orderIn (now (asked .entry)) p)) ⌝ }
+{
+    for l in 0..k {
+        if !supplied_load(judged, fresh, stores, partners, asked, k, p, l) {
+            return false;
+        }
+    }
+    true
+}
+
+// Rule 15. `judged` holds, by thread, the loads that it speaks of; `fresh` those that hold the initial value; `partners`, by
+// event, the events that use its address.
+pub fn rule15<'a>(
+    judged: &'a [u64; Case::MOST_THREADS],
+    fresh: u64,
+    stores: u64,
+    partners: &'a [u64; Case::MOST_EVENTS],
+    asked: &'a [u64; Case::MOST_THREADS * Case::MOST_EVENTS],
+    n: usize,
+    k: usize,
+) -> bool
+    requires { ⌜ n ≤ mostThreads ⌝ }
+    requires { ⌜ k ≤ mostEvents ⌝ }
+    ensures { λ r. ⌜ r ≡ may15 n k (setIn (now (judged .entry))) (bit fresh) (storeIn stores (now (partners .entry))) (orderIn (now (asked .entry))) ⌝ }
+{
+    for p in 0..n {
+        if !supplied_order(judged[p], fresh, stores, partners, asked, k, p) {
+            return false;
+        }
+    }
+    true
+}
+
+// Of those, store s: another lies between s and load l, or the values are equal, or l comes before s.
+fn explained_store(
+    those: u64,
+    between: u64,
+    values: &[u32; Case::MOST_EVENTS],
+    asked: &[u64; Case::MOST_THREADS * Case::MOST_EVENTS],
+    k: usize,
+    p: usize,
+    l: usize,
+    s: usize,
+) -> bool
+    requires { ⌜ k ≤ mostEvents ⌝ }
+    requires { ⌜ p < mostThreads ⌝ }
+    requires { ⌜ l < k ⌝ }
+    requires { ⌜ s < k ⌝ }
+    ensures { λ r. ⌜ r ≡ explained k (bit those) (bit between) (equalIn (now (values .entry))) (orderIn (now (asked .entry)) p) l s ⌝ }
+{
+    if bits::has(those, s) {
+        if values[l] == values[s] {
+            return true;
+        }
+        if bits::has(rows::row(asked, p, l), s) {
+            return true;
+        }
+        rows::any(
+            rows::without(bits::both(between, rows::row(asked, p, s)), s),
+            k,
+        )
+    } else {
+        true
+    }
+}
+
+// Every store of those.
+fn explained_stores(
+    those: u64,
+    between: u64,
+    values: &[u32; Case::MOST_EVENTS],
+    asked: &[u64; Case::MOST_THREADS * Case::MOST_EVENTS],
+    k: usize,
+    p: usize,
+    l: usize,
+) -> bool
+    requires { ⌜ k ≤ mostEvents ⌝ }
+    requires { ⌜ p < mostThreads ⌝ }
+    requires { ⌜ l < k ⌝ }
+    ensures { λ r. ⌜ r ≡ all k (explained k (bit those) (bit between) (equalIn (now (values .entry))) (orderIn (now (asked .entry)) p) l) ⌝ }
+{
+    for s in 0..k {
+        if !explained_store(those, between, values, asked, k, p, l, s) {
+            return false;
+        }
+    }
+    true
+}
+
+// Rule 16 of thread p at load l, if it is judged.
+fn overwritten_load(
+    judged: u64,
+    seen: u64,
+    stores: u64,
+    partners: &[u64; Case::MOST_EVENTS],
+    values: &[u32; Case::MOST_EVENTS],
+    asked: &[u64; Case::MOST_THREADS * Case::MOST_EVENTS],
+    k: usize,
+    p: usize,
+    l: usize,
+) -> bool
+    requires { ⌜ k ≤ mostEvents ⌝ }
+    requires { ⌜ p < mostThreads ⌝ }
+    requires { ⌜ l < k ⌝ }
+    ensures { λ r. ⌜ r ≡ overwritten k (bit judged) (bit seen) (storeIn stores (now (partners .entry))) (equalIn (now (values .entry))) (orderIn (now (asked .entry)) p) l ⌝ }
+{
+    if bits::has(judged, l) {
+        let sources = bits::both(stores, partners[l]);
+        let between = bits::both(sources, rows::before(asked, k, p, l));
+        explained_stores(bits::both(sources, seen), between, values, asked, k, p, l)
+    } else {
+        true
+    }
+}
+
+// Rule 16 of thread p.
+fn overwritten_order(
+    judged: u64,
+    seen: u64,
+    stores: u64,
+    partners: &[u64; Case::MOST_EVENTS],
+    values: &[u32; Case::MOST_EVENTS],
+    asked: &[u64; Case::MOST_THREADS * Case::MOST_EVENTS],
+    k: usize,
+    p: usize,
+) -> bool
+    requires { ⌜ k ≤ mostEvents ⌝ }
+    requires { ⌜ p < mostThreads ⌝ }
+    ensures { λ r. ⌜ r ≡ all k (overwritten k (bit judged) (bit seen) (storeIn stores (now (partners .entry))) (equalIn (now (values .entry))) (orderIn (now (asked .entry)) p)) ⌝ }
+{
+    for l in 0..k {
+        if !overwritten_load(judged, seen, stores, partners, values, asked, k, p, l) {
+            return false;
+        }
+    }
+    true
+}
+
+// Rule 16. `seen` holds, by thread, the events that it sees.
+pub fn rule16<'a>(
+    judged: &'a [u64; Case::MOST_THREADS],
+    seen: &'a [u64; Case::MOST_THREADS],
+    stores: u64,
+    partners: &'a [u64; Case::MOST_EVENTS],
+    values: &'a [u32; Case::MOST_EVENTS],
+    asked: &'a [u64; Case::MOST_THREADS * Case::MOST_EVENTS],
+    n: usize,
+    k: usize,
+) -> bool
+    requires { ⌜ n ≤ mostThreads ⌝ }
+    requires { ⌜ k ≤ mostEvents ⌝ }
+    ensures { λ r. ⌜ r ≡ may16 n k (setIn (now (judged .entry))) (setIn (now (seen .entry))) (storeIn stores (now (partners .entry))) (equalIn (now (values .entry))) (orderIn (now (asked .entry))) ⌝ }
+{
+    for p in 0..n {
+        if !overwritten_order(judged[p], seen[p], stores, partners, values, asked, k, p) {
+            return false;
+        }
+    }
+    true
+}
+
+// Event e comes before every event of the set in thread q's order.
+fn leads(
+    asked: &[u64; Case::MOST_THREADS * Case::MOST_EVENTS],
+    k: usize,
+    set: u64,
+    e: usize,
+    q: usize,
+) -> bool
+    requires { ⌜ k ≤ mostEvents ⌝ }
+    requires { ⌜ e < k ⌝ }
+    requires { ⌜ q < mostThreads ⌝ }
+    ensures { λ r. ⌜ r ≡ all k (λ g. bit set g ⇒ orderIn (now (asked .entry)) q e g) ⌝ }
+{
+    bits::inside_below(set, rows::row(asked, q, e), k)
+}
+
+// Event e comes before every event of the set in every thread's order.
+fn leads_everywhere(
+    asked: &[u64; Case::MOST_THREADS * Case::MOST_EVENTS],
+    n: usize,
+    k: usize,
+    set: u64,
+    e: usize,
+) -> bool
+    requires { ⌜ n ≤ mostThreads ⌝ }
+    requires { ⌜ k ≤ mostEvents ⌝ }
+    requires { ⌜ e < k ⌝ }
+    ensures { λ r. ⌜ r ≡ all n (λ q. all k (λ g. bit set g ⇒ orderIn (now (asked .entry)) q e g)) ⌝ }
+{
+    for q in 0..n {
+        if !leads(asked, k, set, e, q) {
+            return false;
+        }
+    }
+    true
+}
+
+// So does event e, if it is one of the first.
+fn carried_event(
+    first: u64,
+    then: u64,
+    asked: &[u64; Case::MOST_THREADS * Case::MOST_EVENTS],
+    n: usize,
+    k: usize,
+    e: usize,
+) -> bool
+    requires { ⌜ n ≤ mostThreads ⌝ }
+    requires { ⌜ k ≤ mostEvents ⌝ }
+    requires { ⌜ e < k ⌝ }
+    ensures { λ r. ⌜ r ≡ (bit first e ⇒ all n (λ q. all k (λ g. bit then g ⇒ orderIn (now (asked .entry)) q e g))) ⌝ }
+{
+    if bits::has(first, e) {
+        leads_everywhere(asked, n, k, then, e)
+    } else {
+        true
+    }
+}
+
+// Every event of the first set comes before every event of the second in every thread's order.
+fn carried(
+    first: u64,
+    then: u64,
+    asked: &[u64; Case::MOST_THREADS * Case::MOST_EVENTS],
+    n: usize,
+    k: usize,
+) -> bool
+    requires { ⌜ n ≤ mostThreads ⌝ }
+    requires { ⌜ k ≤ mostEvents ⌝ }
+    ensures { λ r. ⌜ r ≡ carriedOf k n (bit first) (bit then) (orderIn (now (asked .entry))) ⌝ }
+{
+    for e in 0..k {
+        if !carried_event(first, then, asked, n, k, e) {
+            return false;
+        }
+    }
+    true
+}
+
+// Rule 17 at f, if it is a barrier of thread p.
+fn cumulative_event(
+    own: u64,
+    syncs: u64,
+    known: &[u64; Case::MOST_THREADS * Case::MOST_EVENTS],
+    asked: &[u64; Case::MOST_THREADS * Case::MOST_EVENTS],
+    n: usize,
+    k: usize,
+    p: usize,
+    f: usize,
+) -> bool
+    requires { ⌜ n ≤ mostThreads ⌝ }
+    requires { ⌜ k ≤ mostEvents ⌝ }
+    requires { ⌜ p < mostThreads ⌝ }
+    requires { ⌜ f < k ⌝ }
+    ensures { λ r. ⌜ r ≡ cumulative k n (bit own) (bit syncs) (orderIn (now (known .entry)) p) (orderIn (now (asked .entry))) f ⌝ }
+{
+    if bits::has(bits::both(syncs, own), f) {
+        carried(
+            rows::before(known, k, p, f),
+            bits::both(own, rows::row(known, p, f)),
+            asked,
+            n,
+            k,
+        )
+    } else {
+        true
+    }
+}
+
+// Rule 17 of thread p.
+fn cumulative_order(
+    own: u64,
+    syncs: u64,
+    known: &[u64; Case::MOST_THREADS * Case::MOST_EVENTS],
+    asked: &[u64; Case::MOST_THREADS * Case::MOST_EVENTS],
+    n: usize,
+    k: usize,
+    p: usize,
+) -> bool
+    requires { ⌜ n ≤ mostThreads ⌝ }
+    requires { ⌜ k ≤ mostEvents ⌝ }
+    requires { ⌜ p < mostThreads ⌝ }
+    ensures { λ r. ⌜ r ≡ all k (cumulative k n (bit own) (bit syncs) (orderIn (now (known .entry)) p) (orderIn (now (asked .entry)))) ⌝ }
+{
+    for f in 0..k {
+        if !cumulative_event(own, syncs, known, asked, n, k, p, f) {
+            return false;
+        }
+    }
+    true
+}
+
+// Rule 17. `own` holds each thread's events.
+pub fn rule17<'a>(
+    own: &'a [u64; Case::MOST_THREADS],
+    syncs: u64,
+    known: &'a [u64; Case::MOST_THREADS * Case::MOST_EVENTS],
+    asked: &'a [u64; Case::MOST_THREADS * Case::MOST_EVENTS],
+    n: usize,
+    k: usize,
+) -> bool
+    requires { ⌜ n ≤ mostThreads ⌝ }
+    requires { ⌜ k ≤ mostEvents ⌝ }
+    ensures { λ r. ⌜ r ≡ may17 n k (setIn (now (own .entry))) (bit syncs) (orderIn (now (known .entry))) (orderIn (now (asked .entry))) ⌝ }
+{
+    for p in 0..n {
+        if !cumulative_order(own[p], syncs, known, asked, n, k, p) {
+            return false;
+        }
+    }
+    true
+}
+
+// Load l must read from s, one of its sources: every rival comes before s.
+fn must_read(
+    sources: u64,
+    rivals: u64,
+    known: &[u64; Case::MOST_THREADS * Case::MOST_EVENTS],
+    k: usize,
+    t: usize,
+    l: usize,
+    s: usize,
+) -> bool
+    requires { ⌜ k ≤ mostEvents ⌝ }
+    requires { ⌜ t < mostThreads ⌝ }
+    requires { ⌜ l < k ⌝ }
+    requires { ⌜ s < k ⌝ }
+    ensures { λ r. ⌜ r ≡ mustReadOf k (bit sources) (bit rivals) (orderIn (now (known .entry)) t) l s ⌝ }
+{
+    if bits::has(sources, s) {
+        if bits::has(rows::row(known, t, s), l) {
+            bits::inside_below(rivals, bits::with(rows::before(known, k, t, s), s), k)
+        } else {
+            false
+        }
+    } else {
+        false
+    }
+}
+
+// Store s, if load l must read from it.
+fn read_store(
+    sources: u64,
+    rivals: u64,
+    known: &[u64; Case::MOST_THREADS * Case::MOST_EVENTS],
+    k: usize,
+    t: usize,
+    l: usize,
+    s: usize,
+) -> u64
+    requires { ⌜ k ≤ mostEvents ⌝ }
+    requires { ⌜ t < mostThreads ⌝ }
+    requires { ⌜ l < k ⌝ }
+    requires { ⌜ s < k ⌝ }
+    ensures { λ r. ⌜ Set r (λ e. mustReadOf k (bit sources) (bit rivals) (orderIn (now (known .entry)) t) l s && eqb e s) ⌝ }
+{
+    rows::where_so(
+        must_read(sources, rivals, known, k, t, l, s),
+        rows::alone(s),
+    )
+}
+
+// The stores from which load l must read.
+fn read_stores(
+    sources: u64,
+    rivals: u64,
+    known: &[u64; Case::MOST_THREADS * Case::MOST_EVENTS],
+    k: usize,
+    t: usize,
+    l: usize,
+) -> u64
+    requires { ⌜ k ≤ mostEvents ⌝ }
+    requires { ⌜ t < mostThreads ⌝ }
+    requires { ⌜ l < k ⌝ }
+    ensures { λ r. ⌜ Set r (λ s. ltb s k && mustReadOf k (bit sources) (bit rivals) (orderIn (now (known .entry)) t) l s) ⌝ }
+{
+    let mut found: u64 = 0;
+    for s in 0..k {
+        found = found | read_store(sources, rivals, known, k, t, l, s);
+    }
+    found
+}
+
+// The same of event l, if it is a load.
+fn read_by(
+    loads: u64,
+    stores: u64,
+    partners: &[u64; Case::MOST_EVENTS],
+    threads: &[u8; Case::MOST_EVENTS],
+    known: &[u64; Case::MOST_THREADS * Case::MOST_EVENTS],
+    asked: &[u64; Case::MOST_THREADS * Case::MOST_EVENTS],
+    k: usize,
+    l: usize,
+) -> u64
+    requires { ⌜ k ≤ mostEvents ⌝ }
+    requires { ⌜ l < k ⌝ }
+    requires { ⌜ getD (now threads) l 0 < mostThreads ⌝ }
+    ensures { λ r. ⌜ Set r (λ s. ltb s k && mustRead k (bit loads) (storeIn stores (now (partners .entry))) (threadIn (now (threads .entry))) (orderIn (now (known .entry))) (orderIn (now (asked .entry))) l s) ⌝ }
+{
+    if bits::has(loads, l) {
+        let t = threads[l] as usize;
+        let sources = bits::both(stores, partners[l]);
+        let rivals = bits::both(sources, rows::before(asked, k, t, l));
+        read_stores(sources, rivals, known, k, t, l)
+    } else {
+        0
+    }
+}
+
+// By load, the stores from which it must read.
+pub fn reads_from<'a>(
+    loads: u64,
+    stores: u64,
+    partners: &'a [u64; Case::MOST_EVENTS],
+    threads: &'a [u8; Case::MOST_EVENTS],
+    known: &'a [u64; Case::MOST_THREADS * Case::MOST_EVENTS],
+    asked: &'a [u64; Case::MOST_THREADS * Case::MOST_EVENTS],
+    k: usize,
+) -> [u64; Case::MOST_EVENTS]
+    requires { ⌜ k ≤ mostEvents ⌝ }
+    requires { ⌜ ((l : ℕ) → l < k → getD (now threads) l 0 < mostThreads) ⌝ }
+    ensures { λ r. ⌜ Sets k r (λ l s. ltb s k && mustRead k (bit loads) (storeIn stores (now (partners .entry))) (threadIn (now (threads .entry))) (orderIn (now (known .entry))) (orderIn (now (asked .entry))) l s) ⌝ }
+{
+    let mut out = [0u64; Case::MOST_EVENTS];
+    for l in 0..k {
+        out[l] = read_by(loads, stores, partners, threads, known, asked, k, l);
+    }
+    out
+}
+
+// What comes after load l in its thread's order, if it must read from an event of the set.
+fn reached_by(
+    read: &[u64; Case::MOST_EVENTS],
+    threads: &[u8; Case::MOST_EVENTS],
+    known: &[u64; Case::MOST_THREADS * Case::MOST_EVENTS],
+    k: usize,
+    set: u64,
+    l: usize,
+) -> u64
+    requires { ⌜ k ≤ mostEvents ⌝ }
+    requires { ⌜ l < k ⌝ }
+    requires { ⌜ getD (now threads) l 0 < mostThreads ⌝ }
+    ensures { λ r. ⌜ Set r (λ g. some k (λ s. setIn (now (read .entry)) l s && bit set s) && orderIn (now (known .entry)) (threadIn (now (threads .entry)) l) l g) ⌝ }
+{
+    let reads_it = rows::any(bits::both(read[l], set), k);
+    rows::where_so(reads_it, rows::row(known, threads[l] as usize, l))
+}
+
+// What comes after a load that must read from an event of the set, in its thread's order.
+fn reached(
+    read: &[u64; Case::MOST_EVENTS],
+    threads: &[u8; Case::MOST_EVENTS],
+    known: &[u64; Case::MOST_THREADS * Case::MOST_EVENTS],
+    k: usize,
+    set: u64,
+) -> u64
+    requires { ⌜ k ≤ mostEvents ⌝ }
+    requires { ⌜ ((l : ℕ) → l < k → getD (now threads) l 0 < mostThreads) ⌝ }
+    ensures { λ r. ⌜ Set r (reachedOf k (setIn (now (read .entry))) (threadIn (now (threads .entry))) (orderIn (now (known .entry))) (bit set)) ⌝ }
+{
+    let mut found: u64 = 0;
+    for l in 0..k {
+        found = found | reached_by(read, threads, known, k, set, l);
+    }
+    found
+}
+
+// Rule 18 at f, if it is a barrier of thread p.
+fn carried_on_event(
+    own: u64,
+    syncs: u64,
+    stores: u64,
+    read: &[u64; Case::MOST_EVENTS],
+    threads: &[u8; Case::MOST_EVENTS],
+    known: &[u64; Case::MOST_THREADS * Case::MOST_EVENTS],
+    asked: &[u64; Case::MOST_THREADS * Case::MOST_EVENTS],
+    n: usize,
+    k: usize,
+    p: usize,
+    f: usize,
+) -> bool
+    requires { ⌜ n ≤ mostThreads ⌝ }
+    requires { ⌜ k ≤ mostEvents ⌝ }
+    requires { ⌜ p < mostThreads ⌝ }
+    requires { ⌜ f < k ⌝ }
+    requires { ⌜ ((l : ℕ) → l < k → getD (now threads) l 0 < mostThreads) ⌝ }
+    ensures { λ r. ⌜ r ≡ carriedOn k n (bit own) (bit syncs) (bit stores) (setIn (now (read .entry))) (threadIn (now (threads .entry))) p (orderIn (now (known .entry))) (orderIn (now (asked .entry))) f ⌝ }
+{
+    if bits::has(bits::both(syncs, own), f) {
+        let those = bits::both(bits::both(stores, own), rows::row(known, p, f));
+        let then = reached(read, threads, known, k, those);
+        carried(rows::before(known, k, p, f), then, asked, n, k)
+    } else {
+        true
+    }
+}
+
+// Rule 18 of thread p.
+fn carried_on_order(
+    own: u64,
+    syncs: u64,
+    stores: u64,
+    read: &[u64; Case::MOST_EVENTS],
+    threads: &[u8; Case::MOST_EVENTS],
+    known: &[u64; Case::MOST_THREADS * Case::MOST_EVENTS],
+    asked: &[u64; Case::MOST_THREADS * Case::MOST_EVENTS],
+    n: usize,
+    k: usize,
+    p: usize,
+) -> bool
+    requires { ⌜ n ≤ mostThreads ⌝ }
+    requires { ⌜ k ≤ mostEvents ⌝ }
+    requires { ⌜ p < mostThreads ⌝ }
+    requires { ⌜ ((l : ℕ) → l < k → getD (now threads) l 0 < mostThreads) ⌝ }
+    ensures { λ r. ⌜ r ≡ all k (carriedOn k n (bit own) (bit syncs) (bit stores) (setIn (now (read .entry))) (threadIn (now (threads .entry))) p (orderIn (now (known .entry))) (orderIn (now (asked .entry)))) ⌝ }
+{
+    for f in 0..k {
+        if !carried_on_event(own, syncs, stores, read, threads, known, asked, n, k, p, f) {
+            return false;
+        }
+    }
+    true
+}
+
+// Rule 18. `read` holds, by load, the stores from which it must read.
+pub fn rule18<'a>(
+    own: &'a [u64; Case::MOST_THREADS],
+    syncs: u64,
+    stores: u64,
+    read: &'a [u64; Case::MOST_EVENTS],
+    threads: &'a [u8; Case::MOST_EVENTS],
+    known: &'a [u64; Case::MOST_THREADS * Case::MOST_EVENTS],
+    asked: &'a [u64; Case::MOST_THREADS * Case::MOST_EVENTS],
+    n: usize,
+    k: usize,
+) -> bool
+    requires { ⌜ n ≤ mostThreads ⌝ }
+    requires { ⌜ k ≤ mostEvents ⌝ }
+    requires { ⌜ ((l : ℕ) → l < k → getD (now threads) l 0 < mostThreads) ⌝ }
+    ensures { λ r. ⌜ r ≡ may18 n k (setIn (now (own .entry))) (bit syncs) (bit stores) (setIn (now (read .entry))) (threadIn (now (threads .entry))) (orderIn (now (known .entry))) (orderIn (now (asked .entry))) ⌝ }
+{
+    for p in 0..n {
+        if !carried_on_order(own[p], syncs, stores, read, threads, known, asked, n, k, p) {
+            return false;
+        }
+    }
+    true
+}
