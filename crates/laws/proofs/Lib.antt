@@ -14,3 +14,4 @@ pub mod Composition
 pub mod Refits
 pub mod Claim
 pub mod Corollaries
+pub mod RoundTrip

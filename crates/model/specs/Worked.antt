@@ -12,6 +12,7 @@ use Rattle.number.specs.Reader.{Out, stop, next}
 use Rattle.model.specs.Case.{Case, Event}
 use Rattle.model.specs.Written.{recordOf}
 use Rattle.model.specs.Answers.{Answer, refusal, done, answerOf, Stored, write, judge, judgeCase, renumberRecord, renumberCase, judgedName, renumberedName}
+use Rattle.model.specs.Calls.{Call, judging, renumbering, judgingCase, renumberingCase, Composed, start, composedAfter}
 
 pub data Row : Type 0 where
   -- a record judged: under PPCw, under PPCs
@@ -26,6 +27,8 @@ pub data Row : Type 0 where
   judgedCase : (model : ℕ) (c : Case) (answer : Answer) → Row
   renumberedCase : (q r : ℕ) (c : Case) (answer : Answer) (bytes : List ℕ) → Row
   written : (c : Case) (at : ℕ) (answer : Answer) (buffer after : List ℕ) → Row
+  -- the permutations composed after a list of calls, for a record of n threads, m addresses and size bytes
+  composing : (n m size : ℕ) (calls : List Call) (T A : ℕ) → Row
 
 -- both models answer alike
 abbrev pub alike : Answer → List ℕ → Row
@@ -71,6 +74,9 @@ abbrev pub bytesOf : Out Case → List ℕ
 bytesOf (stop x p) = []
 bytesOf (next c i) = recordOf c
 
+abbrev pub sameComposed : Composed → (T A : ℕ) → Bool
+sameComposed b T A = eqb (b .T) T && eqb (b .A) A
+
 -- the definitions give the row's answer
 unfoldable pub holds : Row → Bool
 holds (judged weak strong s) = sameAnswer (judge 0 s) weak && sameAnswer (judge 1 s) strong
@@ -81,6 +87,7 @@ holds (namedRenumbered q r at name s buffer) = same (renumberedName q r s (lengt
 holds (judgedCase model c a) = sameAnswer (judgeCase model c) a
 holds (renumberedCase q r c a s) = sameAnswer (answerOf (renumberCase q r c)) a && same (bytesOf (renumberCase q r c)) s
 holds (written c at a buffer after) = sameStored (write c buffer at) a after
+holds (composing n m size xs T A) = sameComposed (composedAfter n m size start xs) T A
 
 unfoldable pub worked : List Row → Bool
 worked [] = true
@@ -1079,8 +1086,22 @@ handedCases =
     14 ∷ []) ∷
     []
 
+-- Lists of calls and the permutations composed beside them
+unfoldable pub callCases : List Row
+callCases =
+    -- No call
+    composing 2 2 19 [] 0 0 ∷
+    -- What does not change them: judgings, a refused one too; a renumbering that does not fit, one of too little room, one whose
+    -- place is past the end; the calls that take a case. Then two renumberings that are accepted
+    composing 2 2 19
+    (judging 1 [] ∷ judging 7 [] ∷ renumbering 2 0 [] (lent 30) 0 ∷ renumbering 0 24 [] (lent 30) 0 ∷ renumbering 6 6 [] (lent 30) 12 ∷ renumbering 6 6 [] (lent 30) 31
+    ∷ judgingCase 0 ∷ renumberingCase 6 6 ∷ renumbering 6 0 [] (lent 30) 11 ∷ renumbering 6 6 (9 ∷ []) (lent 19) 0 ∷ [])
+    0 6 ∷
+    -- First 2, then 6, is 8; the other way round it would be 12
+    composing 3 3 19 (renumbering 2 6 [] (lent 19) 0 ∷ renumbering 6 2 [] (lent 19) 0 ∷ []) 8 12 ∷ []
+
 -- The table
 unfoldable pub records : List Row
 records =
     paperCases ++ orderCases ++ valueCases ++ barrierCases ++ layoutCases
-    ++ modelCases ++ nameCases ++ renumberCases ++ handedCases
+    ++ modelCases ++ nameCases ++ renumberCases ++ handedCases ++ callCases
