@@ -1,14 +1,14 @@
 -- Laws of rules 11 to 14 as they are tested.
 -- Assumes nothing.
-use Prim.Native.Nat.{ℕ, zero, suc, _+_, _-_, _*_, _^_, _≤_, _<_}
+use Prim.Native.Nat.{ℕ, zero, suc, _+_, _-_, _≤_, _<_}
 use native.Mathlib.Numerals.{add-one}
 use native.Mathlib.Omega.{arith}
-use mathlib.Core.Path.{_≡_, refl, sym, ap, ap₂, _∙_, subst}
-use mathlib.Core.Bool.{Bool, true, false, not, _&&_, _||_, true≢false, false≢true}
-use mathlib.Core.List.{List, [], _∷_}
+use mathlib.Core.Path.{_≡_, refl, sym, ap, ap₂, _∙_}
+use mathlib.Core.Bool.{Bool, true, false, not, _&&_, _||_, true≢false}
+use mathlib.Core.List.{List, _∷_}
 use lib.Dec.{eqb, ltb}
 use lib.Bits.{bitAnd, bitOr}
-use borrow.Author.Tests.{eqb-true, eq-eqb, ne-eqb, ltb-true, lt-ltb, ltb-false, le-ltb}
+use borrow.Author.Tests.{eqb-true, eq-eqb, ne-eqb, ltb-true, lt-ltb, ltb-false}
 use Rattle.finite.specs.Tests.{all, some, count, tick, _⇒_}
 use Rattle.finite.specs.Lists.{table}
 use Rattle.finite.proofs.Tests.{iff, and-l, and-r, and-i, or-l, or-r, or-e, is-false, all-get, all-make, all-same, all-swap, all-not, imp-all, imp-e, imp-i, some-make, some-none, count-same}
@@ -16,8 +16,8 @@ use Rattle.bits.specs.Bit.{bit}
 use Rattle.model.specs.Rules.{first}
 use Rattle.rows.specs.Sets.{Set}
 use Rattle.rows.specs.May.{Relation, may13, may14}
-use Rattle.rows.proofs.SetLaws.{but, set-same, either, share, as-set, and-some-imp, some-out}
-use Rattle.orders.specs.Parts.{closed, connected, listed, coherent}
+use Rattle.rows.proofs.SetLaws.{but, set-same, either, share, as-set, and-some-imp}
+use Rattle.orders.specs.Parts.{closed, listed, coherent}
 
 and-true : (x : Bool) → (x && true) ≡ x
 and-true true = refl
@@ -37,13 +37,17 @@ closed-rest k known asked a h = ap (λ t. not t && (all k λ b. known a b ⇒ (a
 eqb-sym : (a b : ℕ) → eqb a b ≡ eqb b a
 eqb-sym a b = iff (λ h. eq-eqb b a (sym (eqb-true a b h))) (λ h. eq-eqb a b (sym (eqb-true b a h)))
 
+but-own-too : (o x y q : Bool) → (o ⇒ (x || (o && y) || q)) ≡ ((o && not q) ⇒ (x || y))
+but-own-too true x y q = but true (x || y) q
+but-own-too false x y q = refl
+
 pub around : (k : ℕ) (own : ℕ → Bool) (asked : ℕ → ℕ → Bool) (a : ℕ)
-    → all k (λ b. own b ⇒ (asked a b || (ltb b k && asked b a) || eqb b a)) ≡ all k (λ b. (own b && not (eqb a b)) ⇒ (asked a b || asked b a))
+    → all k (λ b. own b ⇒ (asked a b || (ltb b k && (own b && asked b a)) || eqb b a)) ≡ all k (λ b. (own b && not (eqb a b)) ⇒ (asked a b || asked b a))
 around k own asked a =
-    all-same k (λ b. own b ⇒ (asked a b || (ltb b k && asked b a) || eqb b a)) (λ b. (own b && not (eqb a b)) ⇒ (asked a b || asked b a))
+    all-same k (λ b. own b ⇒ (asked a b || (ltb b k && (own b && asked b a)) || eqb b a)) (λ b. (own b && not (eqb a b)) ⇒ (asked a b || asked b a))
     (λ b l.
-    ap₂ (λ t q. own b ⇒ (asked a b || (t && asked b a) || q)) (lt-ltb b k l) (eqb-sym b a)
-    ∙ but (own b) (asked a b || asked b a) (eqb a b))
+    ap₂ (λ t q. own b ⇒ (asked a b || (t && (own b && asked b a)) || q)) (lt-ltb b k l) (eqb-sym b a)
+    ∙ but-own-too (own b) (asked a b) (asked b a) (eqb a b))
 
 -- ---- 13
 

@@ -3,13 +3,12 @@
 ghost use mathlib.Core.Path.{_≡_};
 ghost use mathlib.Core.Bool.{true, _&&_, _||_};
 ghost use Prim.Native.Nat.{ℕ, _+_, _*_, _<_, _≤_};
-ghost use lib.Dec.{eqb, ltb};
-ghost use lib.ListN.{getD, length};
+ghost use lib.ListN.{getD};
 ghost use Rattle.finite.specs.Tests.{all, some, count, _⇒_};
 ghost use Rattle.bits.specs.Bit.{bit};
 ghost use Rattle.model.specs.Limits.{mostThreads, mostAddresses, mostEvents};
 ghost use Rattle.model.specs.Rules.{first};
-ghost use Rattle.rows.specs.Sets.{Set, Sets, rowIn, orderIn, setIn, storeIn};
+ghost use Rattle.rows.specs.Sets.{Set, orderIn, setIn, storeIn};
 ghost use Rattle.rows.specs.May.{may11, may12, may13, may14};
 ghost use Rattle.orders.specs.Parts.{closed, connected, listed, coherent, writesIn, writtenIn};
 use case::Case;
@@ -87,7 +86,7 @@ fn connected_event(
     ensures { λ r. ⌜ r ≡ connected k (bit own) (orderIn (now (asked .entry)) p) a ⌝ }
 {
     if bits::has(own, a) {
-        let around = rows::row(asked, p, a) | rows::before(asked, k, p, a);
+        let around = rows::row(asked, p, a) | rows::before_of(asked, k, p, own, a);
         bits::inside_below(own, bits::with(around, a), k)
     } else {
         true
@@ -105,10 +104,12 @@ fn connected_order(
     requires { ⌜ p < mostThreads ⌝ }
     ensures { λ r. ⌜ r ≡ all k (connected k (bit own) (orderIn (now (asked .entry)) p)) ⌝ }
 {
-    for a in 0..k {
-        if !connected_event(own, asked, k, p, a) {
+    let mut rest = bits::both(own, bits::below(k));
+    while rest != 0 {
+        if !connected_event(own, asked, k, p, rows::lowest(rest)) {
             return false;
         }
+        rest = rows::but_lowest(rest);
     }
     true
 }
@@ -180,10 +181,12 @@ fn listed_order(
     requires { ⌜ p < mostThreads ⌝ }
     ensures { λ r. ⌜ r ≡ all k (listed k (bit own) (bit syncs) (setIn (now (partners .entry))) (orderIn (now (asked .entry)) p)) ⌝ }
 {
-    for a in 0..k {
-        if !listed_event(own, syncs, partners, asked, k, p, a) {
+    let mut rest = bits::both(own, bits::below(k));
+    while rest != 0 {
+        if !listed_event(own, syncs, partners, asked, k, p, rows::lowest(rest)) {
             return false;
         }
+        rest = rows::but_lowest(rest);
     }
     true
 }

@@ -1,2 +1,4 @@
 pub mod Loops
 pub mod SetLaws
+pub mod AsRules
+pub mod Visits

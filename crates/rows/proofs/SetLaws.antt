@@ -1,12 +1,12 @@
 -- Laws of sets.
 -- Assumes nothing.
-use Prim.Native.Nat.{ℕ, zero, suc, _+_, _-_, _/_, _%_, _^_, _≤_, _<_}
+use Prim.Native.Nat.{ℕ, zero, suc, _-_, _/_, _%_, _^_, _<_}
 use native.Mathlib.Omega.{arith}
 use mathlib.Core.Path.{_≡_, refl, sym, ap, ap₂, _∙_, subst}
 use mathlib.Core.Bool.{Bool, true, false, not, _&&_, _||_, true≢false, false≢true}
 use native.Mathlib.Nat.{le-refl, mod-lt}
 use borrow.Author.Tests.{eqb-true, eq-eqb, ltb-true, lt-ltb}
-use Rattle.finite.proofs.Tests.{iff, and-l, and-r, and-i, or-l, or-r, or-e, is-false, some-none, some-same, some-make, all-get, all-make, all-same, all-swap, imp-and, imp-all, imp-e, imp-i}
+use Rattle.finite.proofs.Tests.{iff, and-l, and-r, and-i, or-l, or-r, or-e, is-false, some-none, some-same, some-make, all-make, all-same, all-swap, imp-and, imp-all, imp-i}
 use lib.Dec.{eqb, ltb}
 use lib.Bits.{bitAnd, bitOr, bitXor, differ, xor-step, xor-shr}
 use lib.Arith.{digits-mod}
@@ -246,3 +246,17 @@ taken-out set i {x} {y} h g = record {
 -- some number of the set passes
 pub some-set : (k : ℕ) {x : ℕ} {f : ℕ → Bool} → Set x f → some k (bit x) ≡ some k f
 some-set k {x} {f} s = some-same k (bit x) f (λ i l. s .has i)
+
+-- the events of a set below k that pass a test, by what the set holds
+pub of-set : (k : ℕ) {x r : ℕ} {f : ℕ → Bool} (g : ℕ → Bool) → Set x f → Set r (λ e. ltb e k && (bit x e && g e)) → Set r (λ e. f e && (ltb e k && g e))
+of-set k {x} {r} {f} g s t = set-same t (λ e. ap (λ b. ltb e k && (b && g e)) (s .has e) ∙ turn (ltb e k) (f e) (g e))
+  where
+    turn : (l a b : Bool) → (l && (a && b)) ≡ (a && (l && b))
+    turn true a b = refl
+    turn false true b = refl
+    turn false false b = refl
+
+-- an exception, of what is asked about anyway
+pub but-own : (o x q : Bool) → (o ⇒ ((o && x) || q)) ≡ ((o && not q) ⇒ x)
+but-own true x q = but true x q
+but-own false x q = refl

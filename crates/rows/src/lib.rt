@@ -1,11 +1,13 @@
 // Orders as rows of sets: row a of thread p holds the events that come after a in p's order.
 ghost use mathlib.Core.Path.{_≡_};
 ghost use mathlib.Core.Bool.{true, not, _&&_, _||_};
-ghost use Prim.Native.Nat.{ℕ, _+_, _*_, _<_, _≤_};
+ghost use Prim.Native.Nat.{ℕ, _+_, _-_, _*_, _<_, _≤_};
+ghost use lib.Bits.{bitAnd};
+ghost use lib.Count.{trailingZeros};
 ghost use lib.Dec.{eqb, ltb};
-ghost use lib.ListN.{getD, length};
-ghost use Rattle.finite.specs.Tests.{all, some, _⇒_};
-ghost use Rattle.bits.specs.Bit.{bit};
+ghost use lib.ListN.{getD};
+ghost use Rattle.finite.specs.Tests.{some};
+ghost use Rattle.bits.specs.Bit.{bit, width};
 ghost use Rattle.model.specs.Limits.{mostThreads, mostAddresses, mostEvents};
 ghost use Rattle.rows.specs.Sets.{Set, Sets, rowIn, orderIn, setIn};
 ghost use Rattle.rows.specs.May.{sees};
@@ -43,18 +45,19 @@ pub fn without(set: u64, i: usize) -> u64
     bits::with(set, i) ^ bits::with(0, i)
 }
 
-// What comes after event b, if it is in the set.
-fn after_one(
-    rows: &[u64; Case::MOST_THREADS * Case::MOST_EVENTS],
-    p: usize,
-    set: u64,
-    b: usize,
-) -> u64
-    requires { ⌜ p < mostThreads ⌝ }
-    requires { ⌜ b < mostEvents ⌝ }
-    ensures { λ r. ⌜ Set r (λ e. bit set b && orderIn (now (rows .entry)) p b e) ⌝ }
+// The first event of a set.
+pub fn lowest(set: u64) -> usize
+    ensures { λ r. ⌜ r ≡ trailingZeros width set ⌝ }
 {
-    where_so(bits::has(set, b), row(rows, p, b))
+    u64::trailing_zeros(set) as usize
+}
+
+// The set without its first event.
+pub fn but_lowest(set: u64) -> u64
+    requires { ⌜ (set ≡ 0 → ⊥) ⌝ }
+    ensures { λ r. ⌜ r ≡ bitAnd set (set - 1) ⌝ }
+{
+    set & (set - 1)
 }
 
 // What comes after some event of the set, in p's order.
@@ -69,8 +72,10 @@ pub fn after(
     ensures { λ r. ⌜ Set r (λ e. some k (λ b. bit set b && orderIn (now (rows .entry)) p b e)) ⌝ }
 {
     let mut found: u64 = 0;
-    for b in 0..k {
-        found = found | after_one(rows, p, set, b);
+    let mut rest = bits::both(set, bits::below(k));
+    while rest != 0 {
+        found = found | row(rows, p, lowest(rest));
+        rest = but_lowest(rest);
     }
     found
 }
@@ -105,6 +110,45 @@ pub fn before(
     let mut found: u64 = 0;
     for a in 0..k {
         found = found | before_one(rows, p, b, a);
+    }
+    found
+}
+
+// Event a of the set, if it comes before b.
+fn before_one_of(
+    rows: &[u64; Case::MOST_THREADS * Case::MOST_EVENTS],
+    p: usize,
+    set: u64,
+    b: usize,
+    a: usize,
+) -> u64
+    requires { ⌜ p < mostThreads ⌝ }
+    requires { ⌜ b < mostEvents ⌝ }
+    requires { ⌜ a < mostEvents ⌝ }
+    requires { ⌜ bit set a ≡ true ⌝ }
+    ensures { λ r. ⌜ Set r (λ e. (bit set a && orderIn (now (rows .entry)) p a b) && eqb e a) ⌝ }
+{
+    where_so(bits::has(row(rows, p, a), b), alone(a))
+}
+
+// The events of the set that come before event b, in p's order.
+pub fn before_of(
+    rows: &[u64; Case::MOST_THREADS * Case::MOST_EVENTS],
+    k: usize,
+    p: usize,
+    set: u64,
+    b: usize,
+) -> u64
+    requires { ⌜ k ≤ mostEvents ⌝ }
+    requires { ⌜ p < mostThreads ⌝ }
+    requires { ⌜ b < mostEvents ⌝ }
+    ensures { λ r. ⌜ Set r (λ e. ltb e k && (bit set e && orderIn (now (rows .entry)) p e b)) ⌝ }
+{
+    let mut found: u64 = 0;
+    let mut rest = bits::both(set, bits::below(k));
+    while rest != 0 {
+        found = found | before_one_of(rows, p, set, b, lowest(rest));
+        rest = but_lowest(rest);
     }
     found
 }

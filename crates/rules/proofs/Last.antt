@@ -1,12 +1,12 @@
 -- The final memory by a struct's arrays is that of the case that it means.
 -- Assumes nothing.
 use Prim.Native.Nat.{ℕ, zero, suc, _+_, _-_, _*_, _≤_, _<_}
-use native.Mathlib.Nat.{lt-of-lt-of-le, le-antisymm}
+use native.Mathlib.Nat.{lt-of-lt-of-le}
 use native.Mathlib.Omega.{arith}
 use native.Mathlib.Decide.{ℕ-discrete}
-use mathlib.Core.Path.{_≡_, refl, sym, ap, ap₂, _∙_, subst}
+use mathlib.Core.Path.{_≡_, refl, sym, ap, _∙_, subst}
 use mathlib.Core.Bool.{Bool, true, false, cond, _&&_}
-use mathlib.Core.List.{List, [], _∷_, map}
+use mathlib.Core.List.{List, [], map}
 use lib.Dec.{eqb, ltb, eqb·suc-zero}
 use lib.ListN.{length, getD, set, length-set}
 use lib.Seq.{getD-set-same, getD-set-other}
@@ -16,17 +16,17 @@ use Rattle.finite.specs.Lists.{table}
 use Rattle.finite.proofs.Tests.{count-same}
 use Rattle.finite.proofs.Lists.{table-get, table-same, as-table}
 use Rattle.bits.specs.Bit.{bit}
-use Rattle.model.specs.Limits.{mostAddresses, mostEvents}
-use Rattle.model.specs.Case.{Event, noEvent, bare, store}
+use Rattle.model.specs.Limits.{mostEvents}
+use Rattle.model.specs.Case.{Event, bare, store}
 use Rattle.model.specs.Record.{storeTo}
-use Rattle.model.specs.Rules.{lastOf, value, initial, address, isStore, kind, final, finals}
+use Rattle.model.specs.Rules.{lastOf, value, initial, address, isStore, kind, final}
 use Rattle.case.specs.declared.Case.{Case as Held}
 use Rattle.case.specs.Held.{eventOf, caseOf}
 use Rattle.case.specs.Sound.{Sound}
 use Rattle.rows.specs.Sets.{Set}
 use Rattle.orders.specs.Parts.{writesIn}
 use Rattle.rules.specs.Finals.{storedIn, valueIn, lastIn, finalIn}
-use Rattle.rules.proofs.Means.{event-in, kind-in, address-in, initial-in, store-in, store-full}
+use Rattle.rules.proofs.Means.{event-in, address-in, initial-in, store-in, store-full}
 
 pub cond-yes : {A : Type 0} (b : Bool) (x y : A) → b ≡ true → x ≡ cond b x y
 cond-yes b x y h = ap (λ t. cond t x y) (sym h)

@@ -1,29 +1,25 @@
 -- What a struct's arrays say of the case that it means.
 -- Assumes nothing.
 use Prim.Native.Nat.{ℕ, zero, suc, _+_, _*_, _%_, _^_, _≤_, _<_}
-use native.Mathlib.Nat.{lt-of-lt-of-le}
 use native.Mathlib.Omega.{arith}
-use mathlib.Core.Path.{_≡_, refl, sym, ap, ap₂, _∙_, subst}
-use mathlib.Core.Bool.{Bool, true, false, not, cond, _&&_, _||_, true≢false, false≢true}
+use mathlib.Core.Path.{_≡_, refl, sym, ap, _∙_}
+use mathlib.Core.Bool.{Bool, true, false, not, cond, _&&_, _||_, true≢false}
 use mathlib.Core.List.{List, []}
-use lib.Dec.{eqb, ltb}
+use lib.Dec.{eqb}
 use lib.ListN.{getD}
-use lib.Bits.{bitAnd, bitOr, and-mask}
-use borrow.Author.Tests.{eqb-true, eq-eqb, ltb-true, lt-ltb}
-use Rattle.finite.specs.Tests.{all, some, count, _⇒_}
+use lib.Bits.{and-mask}
+use borrow.Author.Tests.{eqb-true, eq-eqb, lt-ltb}
 use Rattle.finite.specs.Lists.{table}
-use Rattle.finite.proofs.Tests.{iff, and-l, and-r, and-i, count-same}
+use Rattle.finite.proofs.Tests.{iff}
 use Rattle.finite.proofs.Lists.{table-get}
 use Rattle.bits.specs.Bit.{bit}
-use Rattle.bits.proofs.Bits.{bit-below, bit-or}
-use Rattle.model.specs.Limits.{mostThreads, mostAddresses, mostEvents}
-use Rattle.model.specs.Case.{Case, Event, noEvent, bare, load, store, sync, mostKind}
-use Rattle.model.specs.Record.{storeTo}
-use Rattle.model.specs.Rules.{first, kind, thread, address, value, initial, isLoad, isStore, isBarrier, of, oneAddress, storeFor, before, written}
+use Rattle.bits.proofs.Bits.{bit-below}
+use Rattle.model.specs.Limits.{mostEvents}
+use Rattle.model.specs.Case.{Event, noEvent, bare, load, store, sync, mostKind}
+use Rattle.model.specs.Rules.{kind, thread, address, value, initial, isLoad, isStore, isBarrier, of, before}
 use Rattle.case.specs.declared.Case.{Case as Held}
 use Rattle.case.specs.Held.{eventOf, eventsOf, caseOf}
-use Rattle.case.specs.Sound.{Sound}
-use Rattle.rows.specs.Sets.{Set, Sets, orderIn, setIn, storeIn}
+use Rattle.rows.specs.Sets.{orderIn}
 
 either-way : (f : Event → ℕ) (b : Bool) (x y : Event) → f x ≡ f y → f (cond b x y) ≡ f y
 either-way f true x y h = h

@@ -1,18 +1,17 @@
 -- The rules' tests by a struct's rows and sets are the rules of the case that it means.
 -- Assumes nothing.
-use Prim.Native.Nat.{ℕ, zero, suc, _+_, _*_, _≤_, _<_}
+use Prim.Native.Nat.{ℕ, _+_, _*_, _<_}
 use native.Mathlib.Nat.{lt-of-lt-of-le}
 use native.Mathlib.Omega.{arith}
 use mathlib.Core.Path.{_≡_, refl, sym, ap, ap₂, _∙_, subst}
-use mathlib.Core.Bool.{Bool, true, false, not, _&&_, _||_, true≢false, false≢true}
+use mathlib.Core.Bool.{Bool, true, false, not, _&&_, _||_}
 use mathlib.Core.List.{List, []}
 use lib.Dec.{eqb, ltb}
 use lib.ListN.{getD}
 use lib.Bits.{bitOr}
-use borrow.Author.Tests.{eqb-true, eq-eqb, ltb-true, lt-ltb, not-true, not-false}
-use Rattle.finite.specs.Tests.{all, some, count, _⇒_}
-use Rattle.finite.specs.Lists.{table}
-use Rattle.finite.proofs.Tests.{iff, and-l, and-r, and-i, count-same, all-same, some-same}
+use borrow.Author.Tests.{lt-ltb, not-true, not-false}
+use Rattle.finite.specs.Tests.{count, _⇒_}
+use Rattle.finite.proofs.Tests.{and-l, count-same, all-same, some-same}
 use Rattle.finite.proofs.Lists.{table-get}
 use Rattle.bits.specs.Bit.{bit}
 use Rattle.bits.proofs.Bits.{bit-or}
@@ -21,14 +20,14 @@ use Rattle.model.specs.Case.{bare, load, store, sync}
 use Rattle.model.specs.Record.{storeTo}
 use Rattle.model.specs.Rules.{Model, PPCw, PPCs, first, kind, thread, address, value, initial, isLoad, isStore, isBarrier, of, oneAddress, storeFor, before, everywhere, written, seen, readsFrom, judged, orElse, rule11, rule12, rule13, rule14, rule15, rule16, rule17, rule18, verdict}
 use Rattle.case.specs.declared.Case.{Case as Held}
-use Rattle.case.specs.Held.{caseOf, eventsOf}
+use Rattle.case.specs.Held.{caseOf}
 use Rattle.case.specs.Sound.{Sound}
 use Rattle.rows.specs.Sets.{Set, Sets, orderIn, setIn, storeIn}
 use Rattle.rows.specs.May.{sees, mustRead, may11, may12, may13, may14, may15, may16, may17, may18}
 use Rattle.orders.specs.Parts.{writesIn, writtenIn}
 use Rattle.values.specs.Parts.{equalIn, threadIn}
 use Rattle.rules.specs.declared.EventSets.{EventSets}
-use Rattle.rules.specs.Verdict.{Agrees, modelOf, chosenIn, judgedIn, freshIn, orderVerdict, valueVerdict, barrierVerdict}
+use Rattle.rules.specs.Verdict.{Agrees, modelOf, judgedIn, freshIn, orderVerdict, valueVerdict, barrierVerdict}
 use Rattle.rules.proofs.Means.{kind-in, thread-in, address-in, value-in, initial-in, before-in, load-in, store-in, barrier-in, of-in, load-full, store-full, full-kind, not-not, eqb-sym}
 
 -- under a test

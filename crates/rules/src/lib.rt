@@ -10,7 +10,7 @@ ghost use Rattle.model.specs.Limits.{mostThreads, mostAddresses, mostEvents};
 ghost use Rattle.model.specs.Rules.{verdict as verdictOf, finals as finalsOf};
 ghost use Rattle.case.specs.Held.{caseOf};
 ghost use Rattle.case.specs.Sound.{Sound};
-ghost use Rattle.rows.specs.Sets.{Set, Sets, orderIn, setIn};
+ghost use Rattle.rows.specs.Sets.{Set, Sets, orderIn};
 ghost use Rattle.rows.specs.May.{sees};
 ghost use Rattle.rules.specs.Finals.{storedIn, valueIn, lastIn, finalIn};
 ghost use Rattle.rules.specs.Verdict.{Agrees, modelOf, chosenIn, judgedIn, freshIn, orderVerdict, valueVerdict, barrierVerdict};

@@ -3,13 +3,12 @@
 use Prim.Native.Nat.{ℕ, _<_}
 use mathlib.Core.Path.{_≡_, refl, sym, ap, ap₂, _∙_}
 use mathlib.Core.Bool.{Bool, true, false, not, _&&_, _||_}
-use lib.Dec.{eqb, ltb}
+use lib.Dec.{eqb, ltb, T}
 use borrow.Author.Tests.{lt-ltb}
 use Rattle.finite.specs.Tests.{all, some, _⇒_}
-use lib.Dec.{T}
 use Rattle.finite.proofs.Tests.{all-same, all-swap, imp-all, some-same, same-test, all-iff, and-iff, imp-iff}
 use Rattle.bits.proofs.Bits.{bit-zero}
-use Rattle.rows.proofs.SetLaws.{but, set-same, union-inside, some-imp}
+use Rattle.rows.proofs.SetLaws.{but-own, set-same, union-inside, some-imp}
 use Rattle.bits.specs.Bit.{bit}
 use Rattle.rows.specs.Sets.{Set}
 use Rattle.rows.specs.May.{Relation, mustRead}
@@ -99,10 +98,10 @@ everywhere-last k n c d asked =
 -- ---- reads-from
 
 pub read-all : (k : ℕ) (rivals : ℕ → Bool) (known : ℕ → ℕ → Bool) (s : ℕ)
-    → all k (λ x. rivals x ⇒ ((ltb x k && known x s) || eqb x s)) ≡ all k (λ x. (rivals x && not (eqb x s)) ⇒ known x s)
+    → all k (λ x. rivals x ⇒ ((ltb x k && (rivals x && known x s)) || eqb x s)) ≡ all k (λ x. (rivals x && not (eqb x s)) ⇒ known x s)
 read-all k rivals known s =
-    all-same k (λ x. rivals x ⇒ ((ltb x k && known x s) || eqb x s)) (λ x. (rivals x && not (eqb x s)) ⇒ known x s)
-    (λ x l. ap (λ t. rivals x ⇒ ((t && known x s) || eqb x s)) (lt-ltb x k l) ∙ but (rivals x) (known x s) (eqb x s))
+    all-same k (λ x. rivals x ⇒ ((ltb x k && (rivals x && known x s)) || eqb x s)) (λ x. (rivals x && not (eqb x s)) ⇒ known x s)
+    (λ x l. ap (λ t. rivals x ⇒ ((t && (rivals x && known x s)) || eqb x s)) (lt-ltb x k l) ∙ but-own (rivals x) (known x s) (eqb x s))
 
 pub and-both : (a b x : Bool) → a ≡ true → b ≡ true → x ≡ (a && b && x)
 and-both a b x h g = ap₂ (λ s t. s && t && x) (sym h) (sym g)

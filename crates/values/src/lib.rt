@@ -1,14 +1,14 @@
 // Rules 15 to 18: the values that loads hold, and what barriers carry. `known` holds what a rule presupposes, `asked` what
 // it asks for.
 ghost use mathlib.Core.Path.{_≡_};
-ghost use mathlib.Core.Bool.{true, not, _&&_, _||_};
-ghost use Prim.Native.Nat.{ℕ, _+_, _*_, _<_, _≤_};
+ghost use mathlib.Core.Bool.{true, _&&_};
+ghost use Prim.Native.Nat.{ℕ, _*_, _<_, _≤_};
 ghost use lib.Dec.{eqb, ltb};
-ghost use lib.ListN.{getD, length};
+ghost use lib.ListN.{getD};
 ghost use Rattle.finite.specs.Tests.{all, some, _⇒_};
 ghost use Rattle.bits.specs.Bit.{bit};
-ghost use Rattle.model.specs.Limits.{mostThreads, mostAddresses, mostEvents};
-ghost use Rattle.rows.specs.Sets.{Set, Sets, rowIn, orderIn, setIn, storeIn};
+ghost use Rattle.model.specs.Limits.{mostThreads, mostEvents};
+ghost use Rattle.rows.specs.Sets.{Set, Sets, orderIn, setIn, storeIn};
 ghost use Rattle.rows.specs.May.{may15, may16, may17, may18, mustRead};
 ghost use Rattle.values.specs.Parts.{equalIn, threadIn, supplied, explained, overwritten, carried as carriedOf, cumulative, mustReadOf, reached as reachedOf, carriedOn};
 use case::Case;
@@ -34,7 +34,7 @@ fn supplied_load(
             true
         } else {
             let sources = bits::both(stores, partners[l]);
-            rows::any(bits::both(sources, rows::before(asked, k, p, l)), k)
+            rows::any(rows::before_of(asked, k, p, sources, l), k)
         }
     } else {
         true
@@ -55,10 +55,21 @@ fn supplied_order(
     requires { ⌜ p < mostThreads ⌝ }
     ensures { λ r. ⌜ r ≡ all k (supplied k (bit judged) (bit fresh) (storeIn stores (now (partners .entry))) (orderIn (now (asked .entry)) p)) ⌝ }
 {
-    for l in 0..k {
-        if !supplied_load(judged, fresh, stores, partners, asked, k, p, l) {
+    let mut rest = bits::both(judged, bits::below(k));
+    while rest != 0 {
+        if !supplied_load(
+            judged,
+            fresh,
+            stores,
+            partners,
+            asked,
+            k,
+            p,
+            rows::lowest(rest),
+        ) {
             return false;
         }
+        rest = rows::but_lowest(rest);
     }
     true
 }
@@ -134,10 +145,12 @@ fn explained_stores(
     requires { ⌜ l < k ⌝ }
     ensures { λ r. ⌜ r ≡ all k (explained k (bit those) (bit between) (equalIn (now (values .entry))) (orderIn (now (asked .entry)) p) l) ⌝ }
 {
-    for s in 0..k {
-        if !explained_store(those, between, values, asked, k, p, l, s) {
+    let mut rest = bits::both(those, bits::below(k));
+    while rest != 0 {
+        if !explained_store(those, between, values, asked, k, p, l, rows::lowest(rest)) {
             return false;
         }
+        rest = rows::but_lowest(rest);
     }
     true
 }
@@ -161,7 +174,7 @@ fn overwritten_load(
 {
     if bits::has(judged, l) {
         let sources = bits::both(stores, partners[l]);
-        let between = bits::both(sources, rows::before(asked, k, p, l));
+        let between = rows::before_of(asked, k, p, sources, l);
         explained_stores(bits::both(sources, seen), between, values, asked, k, p, l)
     } else {
         true
@@ -183,10 +196,22 @@ fn overwritten_order(
     requires { ⌜ p < mostThreads ⌝ }
     ensures { λ r. ⌜ r ≡ all k (overwritten k (bit judged) (bit seen) (storeIn stores (now (partners .entry))) (equalIn (now (values .entry))) (orderIn (now (asked .entry)) p)) ⌝ }
 {
-    for l in 0..k {
-        if !overwritten_load(judged, seen, stores, partners, values, asked, k, p, l) {
+    let mut rest = bits::both(judged, bits::below(k));
+    while rest != 0 {
+        if !overwritten_load(
+            judged,
+            seen,
+            stores,
+            partners,
+            values,
+            asked,
+            k,
+            p,
+            rows::lowest(rest),
+        ) {
             return false;
         }
+        rest = rows::but_lowest(rest);
     }
     true
 }
@@ -284,10 +309,12 @@ fn carried(
     requires { ⌜ k ≤ mostEvents ⌝ }
     ensures { λ r. ⌜ r ≡ carriedOf k n (bit first) (bit then) (orderIn (now (asked .entry))) ⌝ }
 {
-    for e in 0..k {
-        if !carried_event(first, then, asked, n, k, e) {
+    let mut rest = bits::both(first, bits::below(k));
+    while rest != 0 {
+        if !carried_event(first, then, asked, n, k, rows::lowest(rest)) {
             return false;
         }
+        rest = rows::but_lowest(rest);
     }
     true
 }
@@ -337,10 +364,13 @@ fn cumulative_order(
     requires { ⌜ p < mostThreads ⌝ }
     ensures { λ r. ⌜ r ≡ all k (cumulative k n (bit own) (bit syncs) (orderIn (now (known .entry)) p) (orderIn (now (asked .entry)))) ⌝ }
 {
-    for f in 0..k {
-        if !cumulative_event(own, syncs, known, asked, n, k, p, f) {
+    let fences = bits::both(syncs, own);
+    let mut rest = bits::both(fences, bits::below(k));
+    while rest != 0 {
+        if !cumulative_event(own, syncs, known, asked, n, k, p, rows::lowest(rest)) {
             return false;
         }
+        rest = rows::but_lowest(rest);
     }
     true
 }
@@ -384,7 +414,11 @@ fn must_read(
 {
     if bits::has(sources, s) {
         if bits::has(rows::row(known, t, s), l) {
-            bits::inside_below(rivals, bits::with(rows::before(known, k, t, s), s), k)
+            bits::inside_below(
+                rivals,
+                bits::with(rows::before_of(known, k, t, rivals, s), s),
+                k,
+            )
         } else {
             false
         }
@@ -430,8 +464,10 @@ fn read_stores(
     ensures { λ r. ⌜ Set r (λ s. ltb s k && mustReadOf k (bit sources) (bit rivals) (orderIn (now (known .entry)) t) l s) ⌝ }
 {
     let mut found: u64 = 0;
-    for s in 0..k {
-        found = found | read_store(sources, rivals, known, k, t, l, s);
+    let mut rest = bits::both(sources, bits::below(k));
+    while rest != 0 {
+        found = found | read_store(sources, rivals, known, k, t, l, rows::lowest(rest));
+        rest = rows::but_lowest(rest);
     }
     found
 }
@@ -455,7 +491,7 @@ fn read_by(
     if bits::has(loads, l) {
         let t = threads[l] as usize;
         let sources = bits::both(stores, partners[l]);
-        let rivals = bits::both(sources, rows::before(asked, k, t, l));
+        let rivals = rows::before_of(asked, k, t, sources, l);
         read_stores(sources, rivals, known, k, t, l)
     } else {
         0
@@ -569,10 +605,25 @@ fn carried_on_order(
     requires { ⌜ ((l : ℕ) → l < k → getD (now threads) l 0 < mostThreads) ⌝ }
     ensures { λ r. ⌜ r ≡ all k (carriedOn k n (bit own) (bit syncs) (bit stores) (setIn (now (read .entry))) (threadIn (now (threads .entry))) p (orderIn (now (known .entry))) (orderIn (now (asked .entry)))) ⌝ }
 {
-    for f in 0..k {
-        if !carried_on_event(own, syncs, stores, read, threads, known, asked, n, k, p, f) {
+    let fences = bits::both(syncs, own);
+    let mut rest = bits::both(fences, bits::below(k));
+    while rest != 0 {
+        if !carried_on_event(
+            own,
+            syncs,
+            stores,
+            read,
+            threads,
+            known,
+            asked,
+            n,
+            k,
+            p,
+            rows::lowest(rest),
+        ) {
             return false;
         }
+        rest = rows::but_lowest(rest);
     }
     true
 }

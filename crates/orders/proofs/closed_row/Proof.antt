@@ -1,17 +1,11 @@
 -- `orders::closed_row` meets its contract. Assumes nothing.
-use Prim.Native.Nat.{ℕ, _+_, _-_, _*_, _<_, _≤_}
+use Prim.Native.Nat.{ℕ}
 use borrow.Author.Needs.{needs}
-use native.Mathlib.Omega.{arith}
-use mathlib.Core.Path.{_≡_, refl, sym, ap, ap₂, _∙_, subst}
-use mathlib.Core.Bool.{Bool, true, not, _&&_, _||_}
-use lib.Dec.{eqb, ltb}
-use lib.ListN.{getD}
-use Rattle.finite.specs.Tests.{all, some, count, _⇒_}
-use Rattle.rows.specs.Sets.{Set, rowIn, orderIn, setIn, storeIn}
+use mathlib.Core.Path.{sym, ap, _∙_}
+use mathlib.Core.Bool.{_&&_}
+use Rattle.finite.specs.Tests.{all, some, _⇒_}
+use Rattle.rows.specs.Sets.{orderIn}
 use Rattle.bits.specs.Bit.{bit}
-use Rattle.rows.proofs.Loops.{Passed, begun, fails, passes, ends}
-use Rattle.model.specs.Rules.{first}
-use Rattle.orders.specs.Parts.{closed, connected, listed, coherent, writesIn, writtenIn}
 use Rattle.orders.proofs.Laws.{closed-no, closed-rest}
 use Rattle.rows.proofs.SetLaws.{inside-set, as-set, union-inside}
 use Rattle.orders.proofs.closed_row.Statement.{statement}

@@ -1,20 +1,18 @@
 -- `orders::coherent_event` meets its contract. Assumes nothing.
-use Prim.Native.Nat.{ℕ, _+_, _-_, _*_, _<_, _≤_}
+use Prim.Native.Nat.{ℕ, _<_, _≤_}
 use borrow.Author.Needs.{needs}
 use native.Mathlib.Omega.{arith}
-use mathlib.Core.Path.{_≡_, refl, sym, ap, ap₂, _∙_, subst}
-use mathlib.Core.Bool.{Bool, true, not, _&&_, _||_}
-use lib.Dec.{eqb, ltb}
+use mathlib.Core.Path.{_≡_, refl, sym, ap, _∙_, subst}
+use mathlib.Core.Bool.{_&&_}
 use lib.ListN.{getD}
 use Rattle.finite.specs.Tests.{all, some, count, _⇒_}
-use Rattle.rows.specs.Sets.{Set, rowIn, orderIn, setIn, storeIn}
+use Rattle.rows.specs.Sets.{orderIn, storeIn}
 use Rattle.bits.specs.Bit.{bit}
-use Rattle.rows.proofs.Loops.{Passed, begun, fails, passes, ends}
 use Rattle.model.specs.Rules.{first}
-use Rattle.orders.specs.Parts.{closed, connected, listed, coherent, writesIn, writtenIn}
+use Rattle.orders.specs.Parts.{writesIn, writtenIn}
 use Rattle.orders.proofs.Laws.{count-le, count-set}
-use Rattle.rows.proofs.SetLaws.{inside-set, as-set, set-as, share, imp-yes, imp-not}
-use Rattle.model.specs.Limits.{mostAddresses, mostEvents}
+use Rattle.rows.proofs.SetLaws.{as-set, set-as, share, imp-yes, imp-not}
+use Rattle.model.specs.Limits.{mostAddresses}
 use Rattle.finite.proofs.Tests.{all-same}
 use Rattle.orders.proofs.coherent_event.Statement.{statement}
 use Rattle.orders.proofs.coherent_event.Tie as tie

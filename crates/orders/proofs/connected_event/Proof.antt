@@ -1,17 +1,11 @@
 -- `orders::connected_event` meets its contract. Assumes nothing.
-use Prim.Native.Nat.{ℕ, _+_, _-_, _*_, _<_, _≤_}
 use borrow.Author.Needs.{needs}
-use native.Mathlib.Omega.{arith}
-use mathlib.Core.Path.{_≡_, refl, sym, ap, ap₂, _∙_, subst}
-use mathlib.Core.Bool.{Bool, true, not, _&&_, _||_}
-use lib.Dec.{eqb, ltb}
-use lib.ListN.{getD}
-use Rattle.finite.specs.Tests.{all, some, count, _⇒_}
-use Rattle.rows.specs.Sets.{Set, rowIn, orderIn, setIn, storeIn}
+use mathlib.Core.Path.{refl, sym, _∙_}
+use mathlib.Core.Bool.{not, _&&_, _||_}
+use lib.Dec.{eqb}
+use Rattle.finite.specs.Tests.{all, _⇒_}
+use Rattle.rows.specs.Sets.{orderIn}
 use Rattle.bits.specs.Bit.{bit}
-use Rattle.rows.proofs.Loops.{Passed, begun, fails, passes, ends}
-use Rattle.model.specs.Rules.{first}
-use Rattle.orders.specs.Parts.{closed, connected, listed, coherent, writesIn, writtenIn}
 use Rattle.orders.proofs.Laws.{around}
 use Rattle.rows.proofs.SetLaws.{inside-set, as-set, set-with, either, imp-yes, imp-not}
 use Rattle.orders.proofs.connected_event.Statement.{statement}
@@ -32,7 +26,7 @@ connected-event-spec =
     let s = h .before .args in
     let asked = orderIn (s .asked .now) (s .p) in
     c .inside-below .ensures
-    ∙ inside-set (s .k) (as-set refl) (set-with (s .a) (c .before .with .ensures) (either (as-set (c .before .before .before .row .ensures)) (c .before .before .before2 .ensures)))
+    ∙ inside-set (s .k) (as-set refl) (set-with (s .a) (c .before .with .ensures) (either (as-set (c .before .before .before .row .ensures)) (c .before .before .before-of .ensures)))
     ∙ around (s .k) (bit (s .own)) asked (s .a)
     ∙ imp-yes (bit (s .own) (s .a)) (all (s .k) (λ b. (bit (s .own) b && not (eqb (s .a) b)) ⇒ (asked (s .a) b || asked b (s .a)))) (sym (h .has .ensures) ∙ d .if1 .taken))
     (λ c.

@@ -1,14 +1,10 @@
 -- `orders::in_write_order` meets its contract. Assumes nothing.
-use Prim.Native.Nat.{ℕ, _+_, _-_, _*_, _<_, _≤_}
+use Prim.Native.Nat.{_+_, _-_, _*_}
 use borrow.Author.Needs.{needs}
 use native.Mathlib.Omega.{arith}
-use mathlib.Core.Path.{_≡_, refl, sym, ap, ap₂, _∙_, subst}
-use mathlib.Core.Bool.{Bool, true, not, _&&_, _||_}
-use lib.Dec.{eqb, ltb}
+use mathlib.Core.Path.{sym, _∙_}
 use lib.ListN.{getD}
-use Rattle.finite.specs.Tests.{all, some, count, _⇒_}
-use Rattle.rows.specs.Sets.{Set, rowIn, orderIn, setIn, storeIn}
-use Rattle.bits.specs.Bit.{bit}
+use Rattle.finite.specs.Tests.{count}
 use Rattle.model.specs.Limits.{mostEvents}
 use Rattle.orders.proofs.Laws.{Walked, set-out, met, passed, goes-on, at-end}
 use Rattle.orders.proofs.in_write_order.Statement.{statement}

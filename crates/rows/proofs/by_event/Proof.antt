@@ -1,13 +1,10 @@
 -- `rows::by_event` meets its contract. Assumes nothing.
-use Prim.Native.Nat.{ℕ, _-_, _<_}
+use Prim.Native.Nat.{_-_}
 use borrow.Author.Needs.{needs}
 use native.Mathlib.Omega.{arith}
-use mathlib.Core.Path.{_≡_, sym, ap, _∙_, subst}
-use mathlib.Core.Bool.{Bool, true, _&&_, _||_}
-use lib.Dec.{eqb, ltb}
+use mathlib.Core.Bool.{_&&_}
 use lib.ListN.{getD}
-use Rattle.finite.specs.Tests.{some}
-use Rattle.rows.specs.Sets.{Set, rowIn, orderIn, setIn}
+use Rattle.rows.specs.Sets.{setIn}
 use Rattle.bits.specs.Bit.{bit}
 use Rattle.rows.proofs.Loops.{Filled, unfilled, fills, filled}
 use Rattle.rows.proofs.by_event.Statement.{statement}

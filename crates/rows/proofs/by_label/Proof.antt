@@ -1,16 +1,14 @@
 -- `rows::by_label` meets its contract. Assumes nothing.
-use Prim.Native.Nat.{ℕ, _-_, _<_}
+use Prim.Native.Nat.{ℕ, _-_}
 use borrow.Author.Needs.{needs}
 use native.Mathlib.Omega.{arith}
-use mathlib.Core.Path.{_≡_, sym, ap, _∙_, subst}
-use mathlib.Core.Bool.{Bool, true, _&&_, _||_}
+use mathlib.Core.Path.{sym, subst, refl}
+use mathlib.Core.Bool.{_&&_}
 use lib.Dec.{eqb, ltb}
 use lib.ListN.{getD}
-use Rattle.finite.specs.Tests.{some}
-use Rattle.rows.specs.Sets.{Set, rowIn, orderIn, setIn}
+use Rattle.rows.specs.Sets.{Set}
 use Rattle.bits.specs.Bit.{bit}
 use Rattle.rows.proofs.Loops.{Filled, unfilled, fills, filled}
-use mathlib.Core.Path.{refl}
 use Rattle.model.specs.Limits.{mostThreads}
 use Rattle.rows.proofs.SetLaws.{share, as-set}
 use Rattle.rows.proofs.by_label.Statement.{statement}

@@ -1,13 +1,12 @@
 -- `rows::seen` meets its contract. Assumes nothing.
-use Prim.Native.Nat.{ℕ, _-_, _<_}
+use Prim.Native.Nat.{ℕ, _-_}
 use borrow.Author.Needs.{needs}
 use native.Mathlib.Omega.{arith}
-use mathlib.Core.Path.{_≡_, sym, ap, _∙_, subst}
-use mathlib.Core.Bool.{Bool, true, _&&_, _||_}
+use mathlib.Core.Path.{subst}
+use mathlib.Core.Bool.{_&&_, _||_}
 use lib.Dec.{eqb, ltb}
-use lib.ListN.{getD}
 use Rattle.finite.specs.Tests.{some}
-use Rattle.rows.specs.Sets.{Set, rowIn, orderIn, setIn}
+use Rattle.rows.specs.Sets.{Set, orderIn}
 use Rattle.bits.specs.Bit.{bit}
 use Rattle.rows.proofs.Loops.{United, empty, joins, united}
 use Rattle.rows.proofs.SetLaws.{seen-set}

@@ -1,21 +1,10 @@
 -- `rules::broken_order` meets its contract. Assumes nothing.
-use Prim.Native.Nat.{ℕ, _+_, _-_, _*_, _<_, _≤_}
 use borrow.Author.Needs.{needs}
-use native.Mathlib.Omega.{arith}
-use mathlib.Core.Path.{_≡_, refl, sym, ap, ap₂, _∙_, subst}
-use mathlib.Core.Bool.{Bool, true, not, _&&_, _||_}
-use lib.Dec.{eqb, ltb}
-use lib.ListN.{getD}
-use Rattle.finite.specs.Tests.{all, some, _⇒_}
-use Rattle.rows.specs.Sets.{Set, rowIn, orderIn, setIn, storeIn}
-use Rattle.bits.specs.Bit.{bit}
-use borrow.Author.Tests.{eq-eqb, ne-eqb}
-use Rattle.rules.specs.Verdict.{chosenIn, judgedIn, freshIn}
+use mathlib.Core.Path.{_∙_}
 use Rattle.case.specs.Held.{caseOf}
-use Rattle.rules.proofs.Same.{broken, kept, first-fails, first-holds}
+use Rattle.rules.proofs.Same.{broken, kept, first-fails, first-holds, same11, same12, same13, same14, store-address, store-written}
 use Rattle.rules.specs.Verdict.{orderVerdict}
 use Rattle.model.specs.Rules.{orElse, rule11, rule12, rule13, rule14}
-use Rattle.rules.proofs.Same.{same11, same12, same13, same14, store-address, store-written}
 use Rattle.rules.proofs.broken_order.Statement.{statement}
 use Rattle.rules.proofs.broken_order.Tie as tie
 

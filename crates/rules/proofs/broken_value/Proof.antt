@@ -1,21 +1,10 @@
 -- `rules::broken_value` meets its contract. Assumes nothing.
-use Prim.Native.Nat.{ℕ, _+_, _-_, _*_, _<_, _≤_}
 use borrow.Author.Needs.{needs}
-use native.Mathlib.Omega.{arith}
-use mathlib.Core.Path.{_≡_, refl, sym, ap, ap₂, _∙_, subst}
-use mathlib.Core.Bool.{Bool, true, not, _&&_, _||_}
-use lib.Dec.{eqb, ltb}
-use lib.ListN.{getD}
-use Rattle.finite.specs.Tests.{all, some, _⇒_}
-use Rattle.rows.specs.Sets.{Set, rowIn, orderIn, setIn, storeIn}
-use Rattle.bits.specs.Bit.{bit}
-use borrow.Author.Tests.{eq-eqb, ne-eqb}
-use Rattle.rules.specs.Verdict.{chosenIn, judgedIn, freshIn}
+use mathlib.Core.Path.{_∙_}
 use Rattle.case.specs.Held.{caseOf}
-use Rattle.rules.proofs.Same.{broken, kept, first-fails, first-holds}
+use Rattle.rules.proofs.Same.{broken, kept, first-fails, first-holds, same15, same16, load-address}
 use Rattle.rules.specs.Verdict.{modelOf, valueVerdict}
 use Rattle.model.specs.Rules.{orElse, rule15, rule16}
-use Rattle.rules.proofs.Same.{same15, same16, load-address}
 use Rattle.rules.proofs.broken_value.Statement.{statement}
 use Rattle.rules.proofs.broken_value.Tie as tie
 

@@ -1,24 +1,15 @@
 -- `rules::final_value` meets its contract. Assumes nothing.
-use Prim.Native.Nat.{ℕ, _+_, _-_, _*_, _<_, _≤_}
+use Prim.Native.Nat.{ℕ, _<_, _≤_}
 use borrow.Author.Needs.{needs}
-use native.Mathlib.Omega.{arith}
-use mathlib.Core.Path.{_≡_, refl, sym, ap, ap₂, _∙_, subst}
-use mathlib.Core.Bool.{Bool, true, not, _&&_, _||_}
-use lib.Dec.{eqb, ltb}
-use lib.ListN.{getD}
-use Rattle.finite.specs.Tests.{all, some, _⇒_}
-use Rattle.rows.specs.Sets.{Set, rowIn, orderIn, setIn, storeIn}
-use Rattle.bits.specs.Bit.{bit}
-use borrow.Author.Tests.{eq-eqb, ne-eqb}
-use Rattle.rules.specs.Verdict.{chosenIn, judgedIn, freshIn}
-use Rattle.rules.specs.Finals.{storedIn, valueIn, lastIn, finalIn}
-use Rattle.rules.proofs.Last.{cond-yes, cond-no}
+use mathlib.Core.Path.{_≡_, refl, sym, ap, _∙_, subst}
+use lib.Dec.{ltb}
+use Rattle.rules.specs.Finals.{storedIn, lastIn}
+use Rattle.rules.proofs.Last.{cond-yes, cond-no, stored-here}
 use Rattle.finite.specs.Tests.{count}
-use native.Mathlib.Nat.{lt-of-lt-of-le, le-trans}
+use native.Mathlib.Nat.{le-trans}
 use Rattle.orders.proofs.Laws.{count-le, count-set}
 use Rattle.rows.proofs.SetLaws.{set-as, share, as-set}
 use borrow.Author.Tests.{lt-ltb, le-ltb}
-use Rattle.rules.proofs.Last.{stored-here}
 use Rattle.model.specs.Limits.{mostEvents}
 use Rattle.rules.proofs.final_value.Statement.{statement}
 use Rattle.rules.proofs.final_value.Tie as tie

@@ -1,19 +1,14 @@
 -- `rules::fresh_load` meets its contract. Assumes nothing.
-use Prim.Native.Nat.{ℕ, _+_, _-_, _*_, _<_, _≤_}
+use Prim.Native.Nat.{_<_}
 use borrow.Author.Needs.{needs}
 use native.Mathlib.Omega.{arith}
-use mathlib.Core.Path.{_≡_, refl, sym, ap, ap₂, _∙_, subst}
-use mathlib.Core.Bool.{Bool, true, not, _&&_, _||_}
-use lib.Dec.{eqb, ltb}
+use mathlib.Core.Path.{sym, ap, _∙_}
+use mathlib.Core.Bool.{_&&_}
+use lib.Dec.{eqb}
 use lib.ListN.{getD}
-use Rattle.finite.specs.Tests.{all, some, _⇒_}
-use Rattle.rows.specs.Sets.{Set, rowIn, orderIn, setIn, storeIn}
-use Rattle.bits.specs.Bit.{bit}
-use borrow.Author.Tests.{eq-eqb, ne-eqb}
-use Rattle.rules.specs.Verdict.{chosenIn, judgedIn, freshIn}
 use Rattle.model.specs.Limits.{mostAddresses}
 use Rattle.bits.proofs.Bits.{bit-zero}
-use Rattle.rows.proofs.SetLaws.{so-set, set-same}
+use Rattle.rows.proofs.SetLaws.{so-set}
 use Rattle.rules.proofs.fresh_load.Statement.{statement}
 use Rattle.rules.proofs.fresh_load.Tie as tie
 

@@ -1,17 +1,8 @@
 -- `rules::value_at` meets its contract. Assumes nothing.
-use Prim.Native.Nat.{ℕ, _+_, _-_, _*_, _<_, _≤_}
 use borrow.Author.Needs.{needs}
-use native.Mathlib.Omega.{arith}
-use mathlib.Core.Path.{_≡_, refl, sym, ap, ap₂, _∙_, subst}
-use mathlib.Core.Bool.{Bool, true, not, _&&_, _||_}
-use lib.Dec.{eqb, ltb}
+use lib.Dec.{eqb}
 use lib.ListN.{getD}
-use Rattle.finite.specs.Tests.{all, some, _⇒_}
-use Rattle.rows.specs.Sets.{Set, rowIn, orderIn, setIn, storeIn}
-use Rattle.bits.specs.Bit.{bit}
 use borrow.Author.Tests.{eq-eqb, ne-eqb}
-use Rattle.rules.specs.Verdict.{chosenIn, judgedIn, freshIn}
-use Rattle.rules.specs.Finals.{storedIn, valueIn, lastIn, finalIn}
 use Rattle.rules.proofs.Last.{cond-yes, cond-no}
 use Rattle.model.specs.Case.{sync}
 use Rattle.rules.proofs.value_at.Statement.{statement}

@@ -1,25 +1,20 @@
 -- `values::carried_on_order` meets its contract. Assumes nothing.
-use Prim.Native.Nat.{ℕ, _+_, _-_, _*_, _<_, _≤_}
 use borrow.Author.Needs.{needs}
-use native.Mathlib.Omega.{arith}
-use mathlib.Core.Path.{_≡_, refl, sym, ap, ap₂, _∙_, subst}
-use mathlib.Core.Bool.{Bool, true, not, _&&_, _||_}
-use lib.Dec.{eqb, ltb}
-use lib.ListN.{getD}
-use Rattle.finite.specs.Tests.{all, some, _⇒_}
-use Rattle.rows.specs.Sets.{Set, rowIn, orderIn, setIn, storeIn}
+use mathlib.Core.Path.{refl, sym, _∙_}
+use Rattle.rows.specs.Sets.{orderIn, setIn}
 use Rattle.bits.specs.Bit.{bit}
-use borrow.Author.Tests.{eq-eqb, ne-eqb}
-use Rattle.rows.proofs.Loops.{Passed, begun, fails, passes, ends}
-use Rattle.values.specs.Parts.{equalIn, threadIn, supplied, explained, overwritten, carried, cumulative, mustReadOf, reached, carriedOn}
+use Rattle.values.specs.Parts.{threadIn, carriedOn}
+use Rattle.rows.proofs.Visits.{Visited, visit-all, visit-in, visit-fails, visit-next, visit-ends, lowest-less}
+use Rattle.rows.proofs.SetLaws.{masked, set-as, share, as-set}
+use Rattle.finite.proofs.Tests.{imp-no}
 use Rattle.values.proofs.carried_on_order.Statement.{statement}
 use Rattle.values.proofs.carried_on_order.Tie as tie
 
 abbrev Inv-loop : tie.InvT-loop
-Inv-loop own syncs stores read threads known asked n k p f₀ f = Passed k (carriedOn k n (bit own) (bit syncs) (bit stores) (setIn read) (threadIn threads) p (orderIn known) (orderIn asked)) f
+Inv-loop own syncs stores read threads known asked n k p fences rest₀ rest = Visited k fences (carriedOn k n (bit own) (bit syncs) (bit stores) (setIn read) (threadIn threads) p (orderIn known) (orderIn asked)) rest
 
 abbrev μ-loop : tie.MeasureT-loop
-μ-loop own syncs stores read threads known asked n k p f₀ f = k - f
+μ-loop own syncs stores read threads known asked n k p fences rest₀ rest = rest
 
 pub carried-on-order-spec : {M : Type 1} → statement M
 carried-on-order-spec =
@@ -27,10 +22,18 @@ carried-on-order-spec =
     (tie.spec
     Inv-loop
     μ-loop
-    (λ c. begun)
-    (λ c κs. (search needs, (search needs, (search needs, (c .loop-test .taken, c .before .before .pre .1 .1 .1)))))
-    (λ c. fails (c .before .before .before .loop .inv) (c .before .before .loop-test .taken) (c .before .carried-on-event .ensures) (c .if1 .taken))
-    (λ c. omega arith)
-    (λ c. omega arith)
-    (λ c. passes (c .before .before .before .loop .inv) (c .before .before .loop-test .taken) (c .before .carried-on-event .ensures) (c .if1 .left))
-    (λ c. ends (c .before .loop .inv) (c .loop-test .left)))
+    (λ c κs. search needs)
+    (λ c κs. search needs)
+    (λ c κs. search needs)
+    (λ c.
+    let s = c .before .before .before .args in
+    visit-all (c .both2 .ok) (masked (s .k) (c .before .before .both .result) (c .both2 .ensures) (c .before .below .ensures)) (λ i h. imp-no _ _ (sym (set-as (c .before .before .both .ensures) (share (as-set refl) (as-set refl)) .has i) ∙ h)))
+    (λ c κs. search needs)
+    (λ c κs.
+    let b = visit-in (c .before .before .loop .inv) (c .before .loop-test .taken) (c .lowest .ensures) in
+    (search needs, (search needs, (search needs, (b, c .before .before .before .before .before .before .pre .1 .1 .1)))))
+    (λ c. visit-fails (c .before .before .before .before .loop .inv) (c .before .before .before .loop-test .taken) (c .before .before .lowest .ensures) (c .before .carried-on-event .ensures) (c .if1 .taken))
+    (λ c κs. c .before .before .before .loop-test .taken)
+    (λ c. lowest-less (c .before .before .before .before .loop-test .taken) (c .but-lowest .ensures))
+    (λ c. visit-next (c .before .before .before .before .before .loop .inv) (c .before .before .before .before .loop-test .taken) (c .before .before .before .lowest .ensures) (c .before .before .carried-on-event .ensures) (c .before .if1 .left) (c .but-lowest .ensures))
+    (λ c. visit-ends (c .before .loop .inv) (c .loop-test .left)))

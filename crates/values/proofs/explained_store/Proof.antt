@@ -1,17 +1,14 @@
 -- `values::explained_store` meets its contract. Assumes nothing.
-use Prim.Native.Nat.{ℕ, _+_, _-_, _*_, _<_, _≤_}
+use Prim.Native.Nat.{ℕ}
 use borrow.Author.Needs.{needs}
-use native.Mathlib.Omega.{arith}
-use mathlib.Core.Path.{_≡_, refl, sym, ap, ap₂, _∙_, subst}
-use mathlib.Core.Bool.{Bool, true, not, _&&_, _||_}
-use lib.Dec.{eqb, ltb}
-use lib.ListN.{getD}
-use Rattle.finite.specs.Tests.{all, some, _⇒_}
-use Rattle.rows.specs.Sets.{Set, rowIn, orderIn, setIn, storeIn}
+use mathlib.Core.Path.{refl, sym, ap, _∙_}
+use mathlib.Core.Bool.{not, _&&_, _||_}
+use lib.Dec.{eqb}
+use Rattle.finite.specs.Tests.{some}
+use Rattle.rows.specs.Sets.{orderIn}
 use Rattle.bits.specs.Bit.{bit}
 use borrow.Author.Tests.{eq-eqb, ne-eqb}
-use Rattle.rows.proofs.Loops.{Passed, begun, fails, passes, ends}
-use Rattle.values.specs.Parts.{equalIn, threadIn, supplied, explained, overwritten, carried, cumulative, mustReadOf, reached, carriedOn}
+use Rattle.values.specs.Parts.{equalIn}
 use Rattle.rows.proofs.SetLaws.{imp-not, set-as, share, as-set, some-set, set-same}
 use Rattle.values.proofs.Laws.{same-value, load-first, else-between}
 use Rattle.values.proofs.explained_store.Statement.{statement}

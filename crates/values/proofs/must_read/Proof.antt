@@ -1,17 +1,12 @@
 -- `values::must_read` meets its contract. Assumes nothing.
-use Prim.Native.Nat.{ℕ, _+_, _-_, _*_, _<_, _≤_}
+use Prim.Native.Nat.{ℕ}
 use borrow.Author.Needs.{needs}
-use native.Mathlib.Omega.{arith}
-use mathlib.Core.Path.{_≡_, refl, sym, ap, ap₂, _∙_, subst}
-use mathlib.Core.Bool.{Bool, true, not, _&&_, _||_}
-use lib.Dec.{eqb, ltb}
-use lib.ListN.{getD}
-use Rattle.finite.specs.Tests.{all, some, _⇒_}
-use Rattle.rows.specs.Sets.{Set, rowIn, orderIn, setIn, storeIn}
+use mathlib.Core.Path.{refl, sym, ap, _∙_}
+use mathlib.Core.Bool.{not, _&&_}
+use lib.Dec.{eqb}
+use Rattle.finite.specs.Tests.{all, _⇒_}
+use Rattle.rows.specs.Sets.{orderIn}
 use Rattle.bits.specs.Bit.{bit}
-use borrow.Author.Tests.{eq-eqb, ne-eqb}
-use Rattle.rows.proofs.Loops.{Passed, begun, fails, passes, ends}
-use Rattle.values.specs.Parts.{equalIn, threadIn, supplied, explained, overwritten, carried, cumulative, mustReadOf, reached, carriedOn}
 use Rattle.rows.proofs.SetLaws.{inside-set, as-set, set-with}
 use Rattle.values.proofs.Laws.{read-all, and-both, and-second, and-first}
 use Rattle.values.proofs.must_read.Statement.{statement}
@@ -30,7 +25,7 @@ must-read-spec =
     (λ c.
     let s = c .before .before .before .before .before .before .before .before .args in
     c .inside-below .ensures
-    ∙ inside-set (s .k) (as-set refl) (set-with (s .s) (c .before .with .ensures) (c .before .before .before2 .ensures))
+    ∙ inside-set (s .k) (as-set refl) (set-with (s .s) (c .before .with .ensures) (c .before .before .before-of .ensures))
     ∙ read-all (s .k) (bit (s .rivals)) (orderIn (s .known .now) (s .t)) (s .s)
     ∙ and-both (bit (s .sources) (s .s)) (orderIn (s .known .now) (s .t) (s .s) (s .l)) (all (s .k) (λ x. (bit (s .rivals) x && not (eqb x (s .s))) ⇒ orderIn (s .known .now) (s .t) x (s .s))) (sym (c .before .before .before .before .before .before .before .has .ensures) ∙ c .before .before .before .before .before .before .if1 .taken) (ap (λ (x : ℕ). bit x (s .l)) (sym (c .before .before .before .before .before .row .ensures)) ∙ sym (c .before .before .before .before .has2 .ensures) ∙ c .before .before .before .if2 .taken))
     (λ c.

@@ -1,18 +1,13 @@
 -- `values::overwritten_load` meets its contract. Assumes nothing.
-use Prim.Native.Nat.{ℕ, _+_, _-_, _*_, _<_, _≤_}
 use borrow.Author.Needs.{needs}
-use native.Mathlib.Omega.{arith}
-use mathlib.Core.Path.{_≡_, refl, sym, ap, ap₂, _∙_, subst}
-use mathlib.Core.Bool.{Bool, true, not, _&&_, _||_}
-use lib.Dec.{eqb, ltb}
-use lib.ListN.{getD}
+use mathlib.Core.Path.{refl, sym, _∙_}
+use mathlib.Core.Bool.{not, _&&_, _||_}
+use lib.Dec.{eqb}
 use Rattle.finite.specs.Tests.{all, some, _⇒_}
-use Rattle.rows.specs.Sets.{Set, rowIn, orderIn, setIn, storeIn}
+use Rattle.rows.specs.Sets.{orderIn, storeIn}
 use Rattle.bits.specs.Bit.{bit}
-use borrow.Author.Tests.{eq-eqb, ne-eqb}
-use Rattle.rows.proofs.Loops.{Passed, begun, fails, passes, ends}
-use Rattle.values.specs.Parts.{equalIn, threadIn, supplied, explained, overwritten, carried, cumulative, mustReadOf, reached, carriedOn}
-use Rattle.rows.proofs.SetLaws.{imp-yes, imp-not, set-as, share, as-set}
+use Rattle.values.specs.Parts.{equalIn}
+use Rattle.rows.proofs.SetLaws.{imp-yes, imp-not, set-as, share, as-set, of-set}
 use Rattle.values.proofs.Laws.{by-sets}
 use Rattle.values.proofs.overwritten_load.Statement.{statement}
 use Rattle.values.proofs.overwritten_load.Tie as tie
@@ -28,15 +23,14 @@ overwritten-load-spec =
     (λ c κs. search needs)
     (λ c κs. search needs)
     (λ c κs. search needs)
-    (λ c κs. search needs)
     (λ c.
-    let s = c .before .before .before .before .before .before .before .before .args in
-    let sources = set-as (c .before .before .before .before .both .ensures) (share (as-set refl) (as-set refl)) in
+    let s = c .before .before .before .before .before .before .before .args in
+    let sources = set-as (c .before .before .before .both .ensures) (share (as-set refl) (as-set refl)) in
     c .explained-stores .ensures
     ∙ by-sets (s .k) (bit (s .seen)) (storeIn (s .stores) (s .partners .now)) (equalIn (s .values .now)) (orderIn (s .asked .now) (s .p)) (s .l)
-    (set-as (c .before .both3 .ensures) (share sources (as-set refl))) (set-as (c .before .before .both2 .ensures) (share sources (c .before .before .before .before2 .ensures)))
+    (set-as (c .before .both2 .ensures) (share sources (as-set refl))) (of-set (s .k) (λ x. orderIn (s .asked .now) (s .p) x (s .l)) sources (c .before .before .before-of .ensures))
     ∙ imp-yes (bit (s .judged) (s .l)) (all (s .k) (λ e. (storeIn (s .stores) (s .partners .now) (s .l) e && bit (s .seen) e)
-    ⇒ ((some (s .k) λ x. storeIn (s .stores) (s .partners .now) (s .l) x && not (eqb x e) && orderIn (s .asked .now) (s .p) e x && orderIn (s .asked .now) (s .p) x (s .l)) || equalIn (s .values .now) (s .l) e || orderIn (s .asked .now) (s .p) (s .l) e))) (sym (c .before .before .before .before .before .before .before .has .ensures) ∙ c .before .before .before .before .before .before .if1 .taken))
+    ⇒ ((some (s .k) λ x. storeIn (s .stores) (s .partners .now) (s .l) x && not (eqb x e) && orderIn (s .asked .now) (s .p) e x && orderIn (s .asked .now) (s .p) x (s .l)) || equalIn (s .values .now) (s .l) e || orderIn (s .asked .now) (s .p) (s .l) e))) (sym (c .before .before .before .before .before .before .has .ensures) ∙ c .before .before .before .before .before .if1 .taken))
     (λ c.
     let s = c .before .before .args in
     imp-not (bit (s .judged) (s .l)) (all (s .k) (λ e. (storeIn (s .stores) (s .partners .now) (s .l) e && bit (s .seen) e)

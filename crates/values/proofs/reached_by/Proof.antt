@@ -1,17 +1,6 @@
 -- `values::reached_by` meets its contract. Assumes nothing.
-use Prim.Native.Nat.{ℕ, _+_, _-_, _*_, _<_, _≤_}
 use borrow.Author.Needs.{needs}
-use native.Mathlib.Omega.{arith}
-use mathlib.Core.Path.{_≡_, refl, sym, ap, ap₂, _∙_, subst}
-use mathlib.Core.Bool.{Bool, true, not, _&&_, _||_}
-use lib.Dec.{eqb, ltb}
-use lib.ListN.{getD}
-use Rattle.finite.specs.Tests.{all, some, _⇒_}
-use Rattle.rows.specs.Sets.{Set, rowIn, orderIn, setIn, storeIn}
-use Rattle.bits.specs.Bit.{bit}
-use borrow.Author.Tests.{eq-eqb, ne-eqb}
-use Rattle.rows.proofs.Loops.{Passed, begun, fails, passes, ends}
-use Rattle.values.specs.Parts.{equalIn, threadIn, supplied, explained, overwritten, carried, cumulative, mustReadOf, reached, carriedOn}
+use mathlib.Core.Path.{refl, _∙_}
 use Rattle.rows.proofs.SetLaws.{so-set, set-as, share, as-set, some-set}
 use Rattle.values.proofs.reached_by.Statement.{statement}
 use Rattle.values.proofs.reached_by.Tie as tie
