@@ -1,18 +1,18 @@
 -- Laws of `bit`: what bits each operation's result has, and that the bits of a number are the number. Assumes nothing.
 use mathlib.Core.Path.{_≡_, refl, sym, ap, ap₂, _∙_, subst}
-use mathlib.Core.Bool.{Bool, true, false, not, _&&_, _||_, true≢false, false≢true}
+use mathlib.Core.Bool.{Bool, true, false, _&&_, _||_, true≢false, false≢true}
 use Prim.Native.Nat.{ℕ, zero, suc, _+_, _-_, _*_, _/_, _%_, _^_, _≤_, _<_, min, max}
-use native.Mathlib.Nat.{mod-lt, min-le-left, max-le, lt-of-le-of-lt, zero-lt-suc, not-suc-le-zero, div-add-mod', le-refl, pow-suc, mul-one, add-zero, div-eq-of-lt, lt-of-lt-of-le, le-of-suc-le-suc, one-mul, mod-eq-of-lt}
-use native.Mathlib.Numerals.{add-one, one-add}
+use native.Mathlib.Nat.{mod-lt, min-le-left, max-le, lt-of-le-of-lt, zero-lt-suc, div-add-mod', le-refl, pow-suc, mul-one, lt-of-lt-of-le, le-of-suc-le-suc, one-mul, mod-eq-of-lt}
+use native.Mathlib.Numerals.{one-add}
 use native.Mathlib.Omega.{arith}
-use lib.Dec.{eqb, ltb, eqb·zero-suc, eqb·suc-zero, eqb·suc-suc, leb·suc-suc, leb·suc-zero, leb·zero}
+use lib.Dec.{eqb, ltb, eqb·zero-suc, eqb·suc-zero, eqb·suc-suc, leb·suc-suc}
 use lib.Arith.{digits-mod, digits-div, lt-one, dbl-pred}
 use lib.Bits.{bitAnd, bitOr, and-step, or-step, and-shr, or-shr, and-le-l, shifted-half, shifted-even}
 use lib.Pow.{pow-pos, pow-lt, shr-shr}
 use borrow.Author.Tests.{eqb-true, eq-eqb, ltb-true, lt-ltb, le-ltb}
 use Rattle.bits.specs.Bit.{bit}
 use Rattle.finite.specs.Tests.{all, _⇒_}
-use Rattle.finite.proofs.Tests.{iff, and-l, and-r, and-i, imp-e, imp-i, all-get, all-make, all-same}
+use Rattle.finite.proofs.Tests.{iff, and-l, and-r, and-i, imp-e, imp-i, all-get, all-make}
 
 two-pos : 0 < 2
 two-pos = zero-lt-suc 1

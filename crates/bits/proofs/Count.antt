@@ -1,6 +1,6 @@
 -- Laws of `count`: the machine's count of a row's ones is the number of its members. Assumes nothing.
 use mathlib.Core.Path.{_≡_, refl, sym, ap, ap₂, _∙_, subst}
-use mathlib.Core.Bool.{Bool, true, false, _&&_}
+use mathlib.Core.Bool.{Bool, _&&_}
 use mathlib.Core.Logic.{⊎-elim}
 use Prim.Native.Nat.{ℕ, zero, suc, _+_, _*_, _/_, _%_, _^_, _≤_, _<_}
 use native.Mathlib.Nat.{mod-lt, zero-lt-suc, pow-suc, eq-or-lt-of-le, le-of-suc-le-suc}
@@ -11,16 +11,8 @@ use lib.Count.{ones, ones-step, ones-ones}
 use borrow.Author.Tests.{lt-ltb, le-ltb}
 use Rattle.bits.specs.Bit.{bit}
 use Rattle.finite.specs.Tests.{count, tick}
-use Rattle.finite.proofs.Tests.{count-same}
+use Rattle.finite.proofs.Tests.{and-true, and-false, count-same}
 use Rattle.bits.proofs.Bits.{bit-low, bit-suc}
-
-and-right : (x : Bool) → (x && true) ≡ x
-and-right true = refl
-and-right false = refl
-
-and-none : (x : Bool) → (x && false) ≡ false
-and-none true = refl
-and-none false = refl
 
 count-split : (n : ℕ) (p : ℕ → Bool) → count (suc n) p ≡ tick (p 0) + count n (λ i. p (suc i))
 unfolding count
@@ -48,6 +40,6 @@ unfolding count
 count-below zero k p h = let e : k ≡ 0 = omega arith in sym (ap (λ (m : ℕ). count m p) e)
 count-below (suc n) k p h =
     ⊎-elim
-    (λ e. count-same (suc n) (λ j. p j && ltb j k) p (λ i l. ap (λ t. p i && t) (lt-ltb i k (omega arith)) ∙ and-right (p i)) ∙ ap (λ (m : ℕ). count m p) (sym e))
-    (λ l. ap₂ (λ (x y : ℕ). x + y) (count-below n k p (le-of-suc-le-suc l)) (ap tick (ap (λ t. p n && t) (le-ltb n k (omega arith)) ∙ and-none (p n))) ∙ omega arith)
+    (λ e. count-same (suc n) (λ j. p j && ltb j k) p (λ i l. ap (λ t. p i && t) (lt-ltb i k (omega arith)) ∙ and-true (p i)) ∙ ap (λ (m : ℕ). count m p) (sym e))
+    (λ l. ap₂ (λ (x y : ℕ). x + y) (count-below n k p (le-of-suc-le-suc l)) (ap tick (ap (λ t. p n && t) (le-ltb n k (omega arith)) ∙ and-false (p n))) ∙ omega arith)
     (eq-or-lt-of-le h)

@@ -4,7 +4,7 @@ use Prim.Native.Nat.{ℕ, zero, suc, _+_, _<_}
 use native.Mathlib.Nat.{add-zero, not-suc-le-zero, le-of-suc-le-suc}
 use native.Mathlib.Omega.{arith}
 use mathlib.Core.Path.{_≡_, refl}
-use mathlib.Core.Bool.{Bool, true, false, not, cond, _&&_, _||_}
+use mathlib.Core.Bool.{Bool, true, false, not, _&&_, _||_}
 use mathlib.Core.List.{List, [], _∷_, _++_}
 use lib.Dec.{leb, ltb}
 use lib.ListN.{length, getD}
@@ -18,6 +18,7 @@ use Rattle.model.specs.Rules.{orElse}
 use Rattle.model.specs.Record.{member}
 use Rattle.model.specs.Fault.{every, eventGood, firstFault, writeFault, writesFault}
 use Rattle.case.specs.Held.{eventOf}
+use Rattle.case.proofs.Events.{event-by}
 
 -- no fault: the test passed, and the rest has none
 pub else-none : (t : Bool) (x y : ℕ) → orElse t (suc x) y ≡ 0 → (t ≡ true) × (y ≡ 0)
@@ -54,14 +55,8 @@ module _ {A : Type 0} (f : A → Bool) where
 -- an event by its numbers
 pub event-good : (n m k t a v : ℕ)
     → eventGood n m (eventOf k t a v) ≡ (leb k mostKind && ltb t n && (bare k || (ltb a m && leb v mostValue)))
-unfolding eventGood eventOf
-event-good n m k t a v = by (bare k) refl
-  where
-    by : (b : Bool) → bare k ≡ b
-        → eventGood n m (cond b (record { kind = k; thread = t; address = 0; value = 0 }) (record { kind = k; thread = t; address = a; value = v }))
-        ≡ (leb k mostKind && ltb t n && (bare k || (ltb a m && leb v mostValue)))
-    by true h = rw h
-    by false h = refl
+unfolding eventGood
+event-good n m k t a v = event-by (λ e. eventGood n m e ≡ (leb k mostKind && ltb t n && (bare k || (ltb a m && leb v mostValue)))) k t a v (λ h. rw h) (λ h. refl)
 
 -- a write order without fault lists events
 pub write-none : (k : ℕ) (mine : ℕ → Bool) (before w : List ℕ) → writeFault k mine before w ≡ 0 → (i : ℕ) → i < length w → getD w i 0 < k

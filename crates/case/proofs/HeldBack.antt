@@ -4,19 +4,22 @@ use Prim.Native.Nat.{ℕ, zero, suc, _+_, _-_, _*_, _%_, _^_, _≤_, _<_}
 use native.Mathlib.Nat.{add-zero, zero-add, zero-mul, not-suc-le-zero, le-of-suc-le-suc, mod-eq-of-lt}
 use native.Mathlib.Omega.{arith}
 use mathlib.Core.Path.{_≡_, refl, ap, sym, _∙_}
-use mathlib.Core.Bool.{Bool, true, false, cond}
+use mathlib.Core.Bool.{Bool, true}
 use mathlib.Core.List.{List, [], _∷_, _++_, map, append-assoc}
-use lib.ListN.{length, getD, length-append, length-replicate, length-map, List·getD-append}
+use lib.ListN.{length, getD, length-append, length-map, List·getD-append}
 use lib.Seq.{getD-append-add}
 use Rattle.finite.specs.Tests.{count}
 use Rattle.finite.specs.Lists.{table}
+use Rattle.finite.proofs.Tests.{count-le}
 use Rattle.finite.proofs.Lists.{table-same, as-table}
 use Rattle.model.specs.Limits.{mostAddresses, mostEvents, mostName}
 use Rattle.model.specs.Case.{Case, Event, noEvent, bare}
 use Rattle.model.specs.Record.{storeTo}
-use Rattle.laws.proofs.Fits.{All, EventFits, WritesFit, Fits}
+use Rattle.laws.proofs.Fits.{EventFits, WritesFit, Fits}
+use Rattle.laws.proofs.AllFrom.{all-at}
 use Rattle.case.specs.Held.{pad, rowsOf, held, eventOf, eventsOf, caseOf}
-use Rattle.case.proofs.WriteOrders.{count-le}
+use Rattle.case.proofs.Events.{event-by}
+use Rattle.case.proofs.Pad.{length-pad, pad-get}
 
 -- what a case keeps that a struct can hold
 pub record Holds (c : Case) : Type 0 where
@@ -34,22 +37,14 @@ pub record Holds (c : Case) : Type 0 where
 back : {A : Type 0} (l : List A) (d : A) (j : ℕ) (f : ℕ → A) → length l ≡ j → ((i : ℕ) → i < j → f i ≡ getD l i d) → table 0 j f ≡ l
 back l d j f e h = table-same 0 j f (λ i. getD l i d) (λ i a b. h i (omega arith)) ∙ sym (as-table l d j e)
 
-in-pad : (n : ℕ) (l : List ℕ) (i : ℕ) → i < length l → getD (pad n l) i 0 ≡ getD l i 0
-unfolding pad
-in-pad n l i h = List·getD-append l _ 0 i h
-
 -- a field of each event
 in-fields : (n : ℕ) (f : Event → ℕ) (es : List Event) (e : ℕ) → e < length es → getD (pad n (map f es)) e 0 ≡ f (getD es e noEvent)
-in-fields n f es e h = in-pad n (map f es) e (rw (length-map es f) h) ∙ at es e h
+in-fields n f es e h = pad-get n (map f es) e (rw (length-map es f) h) ∙ at es e h
   where
     at : (es : List Event) (e : ℕ) → e < length es → getD (map f es) e 0 ≡ f (getD es e noEvent)
     at [] e h = absurd (not-suc-le-zero h)
     at (x ∷ es) zero h = refl
     at (x ∷ es) (suc e) h = at es e (le-of-suc-le-suc h)
-
-pub length-pad : (n : ℕ) (l : List ℕ) → length l ≤ n → length (pad n l) ≡ n
-unfolding pad
-length-pad n l h = simp (length-append, length-replicate) (omega arith)
 
 -- row x of rows that have n places each
 in-rows : (n : ℕ) (rs : List (List ℕ)) (z : List ℕ) (x i : ℕ) → x < length rs → ((y : ℕ) → y < length rs → length (getD rs y []) ≤ n) → i < length (getD rs x [])
@@ -69,13 +64,9 @@ in-rows n (r ∷ rs) z (suc x) i h b l =
 
 -- ---- an event
 event-again : (v : Event) → (bare (v .kind) ≡ true → (v .address ≡ 0) × (v .value ≡ 0)) → eventOf (v .kind) (v .thread) (v .address) (v .value) ≡ v
-unfolding eventOf
-event-again v s = by (bare (v .kind)) s
-  where
-    by : (t : Bool) → (t ≡ true → (v .address ≡ 0) × (v .value ≡ 0))
-        → cond t (record { kind = v .kind; thread = v .thread; address = 0; value = 0 }) (record { kind = v .kind; thread = v .thread; address = v .address; value = v .value }) ≡ v
-    by true s = λ i. record { kind = v .kind; thread = v .thread; address = sym (s refl .0) i; value = sym (s refl .1) i }
-    by false s = refl
+event-again v s =
+    event-by (λ e. e ≡ v) (v .kind) (v .thread) (v .address) (v .value)
+    (λ h i. record { kind = v .kind; thread = v .thread; address = sym (s h .0) i; value = sym (s h .1) i }) (λ h. refl)
 
 module _ (c : Case) (H : Holds c) where
   events-back : eventsOf (held c .events) (held c .kind) (held c .thread) (held c .address) (held c .value) ≡ c .events
@@ -89,11 +80,11 @@ module _ (c : Case) (H : Holds c) where
 
   initials-back : table 0 (c .m) (λ x. getD (held c .initial) x 0) ≡ c .initials
   unfolding held
-  initials-back = back (c .initials) 0 (c .m) _ (H .initials) (λ x h. in-pad mostAddresses (c .initials) x (omega (arith, H .initials)))
+  initials-back = back (c .initials) 0 (c .m) _ (H .initials) (λ x h. pad-get mostAddresses (c .initials) x (omega (arith, H .initials)))
 
   name-back : table 0 (length (c .name)) (λ i. getD (held c .name) i 0) ≡ c .name
   unfolding held
-  name-back = back (c .name) 0 (length (c .name)) _ refl (λ i h. in-pad mostName (c .name) i h)
+  name-back = back (c .name) 0 (length (c .name)) _ refl (λ i h. pad-get mostName (c .name) i h)
 
   write-back : (x : ℕ) → x < c .m → table 0 (count (c .k) (storeTo (c .events) x)) (λ i. getD (held c .writes) (x * mostEvents + i) 0) ≡ getD (c .writes) x []
   unfolding held pad
@@ -134,11 +125,6 @@ module _ (c : Case) (H : Holds c) where
   }
 
 -- ---- a case that keeps the limits
-all-at : {A : Type 0} (P : A → Type 0) (l : List A) (d : A) → All P l → (i : ℕ) → i < length l → P (getD l i d)
-all-at P [] d h i b = absurd (not-suc-le-zero b)
-all-at P (a ∷ l) d h zero b = h .0
-all-at P (a ∷ l) d h (suc i) b = all-at P l d (h .1) i (le-of-suc-le-suc b)
-
 written-at : (k : ℕ) (mine : ℕ → ℕ → Bool) (before ws : List (List ℕ)) → WritesFit k mine before ws
     → (x : ℕ) → x < length ws → length (getD ws x []) ≡ count k (mine (length before + x))
 written-at k mine before [] h x b = absurd (not-suc-le-zero b)
@@ -151,13 +137,13 @@ pub holds : (c : Case) → Fits c → Holds c
 holds c F = record {
   initials = sym (F .m);
   events = sym (F .k);
-  bares = λ e h t. let f = all-at (EventFits (c .n) (c .m)) (c .events) noEvent (F .events) e (omega (arith, F .k)) in (f .no-address t, f .no-value t);
+  bares = λ e h t. let f = all-at (EventFits (c .n) (c .m)) (c .events) (F .events) e noEvent (omega (arith, F .k)) in (f .no-address t, f .no-value t);
   writes = sym (F .m′);
   written = λ x h. written-at (c .k) (storeTo (c .events)) [] (c .writes) (F .writes) x (omega (arith, F .m′)) ∙ ap (λ (y : ℕ). count (c .k) (storeTo (c .events) y)) (zero-add x);
   few = F .k-most;
   orders = sym (F .n);
-  rows = λ p h. all-at _ (c .orders) [] (F .orders) p (omega (arith, F .n)) .0;
-  small = λ p a h l. let f = all-at _ (c .orders) [] (F .orders) p (omega (arith, F .n)) in all-at _ (getD (c .orders) p []) 0 (f .1) a (omega (arith, f .0));
+  rows = λ p h. all-at _ (c .orders) (F .orders) p [] (omega (arith, F .n)) .0;
+  small = λ p a h l. let f = all-at _ (c .orders) (F .orders) p [] (omega (arith, F .n)) in all-at _ (getD (c .orders) p []) (f .1) a 0 (omega (arith, f .0));
 }
 
 pub fits-back : (c : Case) → Fits c → caseOf (held c) ≡ c

@@ -1,9 +1,11 @@
+pub mod Events
 pub mod Faults
 pub mod Bounds
 pub mod Tested
 pub mod WriteOrders
 pub mod Sizes
 pub mod Means
+pub mod Pad
 pub mod HeldBack
 pub mod Masks
 pub mod SameCase

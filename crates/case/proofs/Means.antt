@@ -2,7 +2,7 @@
 -- Assumes nothing.
 use Prim.Native.Nat.{ℕ, suc, _+_, _*_, _≤_, _<_}
 use mathlib.Core.Path.{_≡_, refl, sym, ap, ap₂, _∙_}
-use mathlib.Core.Bool.{Bool, true, false, not, cond, _&&_}
+use mathlib.Core.Bool.{Bool, true, false, not, _&&_}
 use mathlib.Core.List.{List, [], _∷_, _++_}
 use lib.Dec.{eqb, leb, ltb}
 use lib.ListN.{getD}
@@ -12,29 +12,20 @@ use Rattle.finite.specs.Lists.{table}
 use Rattle.finite.proofs.Tests.{and-r, count-same}
 use Rattle.finite.proofs.Lists.{table-get, table-same, table-length}
 use Rattle.model.specs.Limits.{leastEdition, mostEdition, mostThreads, mostAddresses, mostEvents, mostValue, mostName}
-use Rattle.model.specs.Case.{Event, noEvent, store, sync, bare}
+use Rattle.model.specs.Case.{Event, noEvent, store, sync}
 use Rattle.model.specs.Rules.{orElse}
 use Rattle.model.specs.Record.{member, storeTo}
 use Rattle.model.specs.Fault.{between, eventGood, firstFault, writeFault, writesFault, fault}
 use Rattle.case.specs.declared.Case.{Case as Held}
 use Rattle.case.specs.Held.{eventOf, eventsOf, caseOf}
 use Rattle.case.specs.Stores.{storeAt, writesAt}
+use Rattle.case.proofs.Events.{event-by}
 use Rattle.case.proofs.Faults.{every-table}
 use Rattle.case.proofs.WriteOrders.{first-fault}
 
 -- ---- stores
-bare-no-store : (k : ℕ) → bare k ≡ true → eqb k store ≡ false
-bare-no-store k h = rw (eqb-true k sync h)
-
 event-store : (k t a v x : ℕ) → (eqb (eventOf k t a v .kind) store && eqb (eventOf k t a v .address) x) ≡ (eqb k store && eqb a x)
-unfolding eventOf
-event-store k t a v x = by (bare k) refl
-  where
-    by : (b : Bool) → bare k ≡ b →
-        let e : Event = cond b (record { kind = k; thread = t; address = 0; value = 0 }) (record { kind = k; thread = t; address = a; value = v }) in
-        (eqb (e .kind) store && eqb (e .address) x) ≡ (eqb k store && eqb a x)
-    by true h = rw (bare-no-store k h)
-    by false h = refl
+event-store k t a v x = event-by (λ e. (eqb (e .kind) store && eqb (e .address) x) ≡ (eqb k store && eqb a x)) k t a v (λ h. rw (eqb-true k sync h)) (λ h. refl)
 
 pub store-same : (k : ℕ) (ks ts as′ vs : List ℕ) (x e : ℕ) → e < k → storeTo (eventsOf k ks ts as′ vs) x e ≡ storeAt ks as′ x e
 unfolding storeTo eventsOf storeAt

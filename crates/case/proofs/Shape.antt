@@ -1,39 +1,31 @@
 -- A struct's case has the shape of one that was read: without fault it keeps the limits.
 -- Assumes nothing.
-use Prim.Native.Nat.{ℕ, zero, suc, _+_, _%_, _^_, _≤_, _<_}
+use Prim.Native.Nat.{ℕ, _<_}
 use native.Mathlib.Nat.{mod-lt}
 use native.Mathlib.Omega.{arith}
 use native.Mathlib.Decide.{decLt}
 use mathlib.Core.Path.{_≡_, refl, ap, sym, _∙_}
-use mathlib.Core.Bool.{Bool, true, false, cond, true≢false}
-use mathlib.Core.List.{List, [], _∷_}
+use mathlib.Core.Bool.{true, true≢false}
+use mathlib.Core.List.{List}
 use lib.ListN.{length, getD, List·getD-eq-default}
 use lib.Pow.{pow-pos}
-use Rattle.finite.specs.Tests.{count}
-use Rattle.finite.specs.Lists.{table}
 use Rattle.finite.proofs.Lists.{table-length}
-use Rattle.model.specs.Case.{Case, Event, bare}
-use Rattle.model.specs.Record.{storeTo}
+use Rattle.model.specs.Case.{Case, bare}
 use Rattle.model.specs.Fault.{fault}
-use Rattle.laws.proofs.Fits.{All, Bytes, Fits}
+use Rattle.laws.proofs.Fits.{Bytes, Fits}
 use Rattle.laws.proofs.AllFrom.{all-at, all-table, from-table}
 use Rattle.laws.proofs.Faultless.{Shaped, faultless, fits-of}
 use Rattle.case.specs.declared.Case.{Case as Held}
 use Rattle.case.specs.Held.{eventOf, eventsOf, caseOf, held}
 use Rattle.case.specs.Sound.{Sound}
+use Rattle.case.proofs.Events.{event-by}
 use Rattle.case.proofs.Bounds.{sound}
 use Rattle.case.proofs.HeldBack.{fits-back}
 
 -- a bare event has neither address nor value
 cleared : (k t a v : ℕ) → bare (eventOf k t a v .kind) ≡ true → (eventOf k t a v .address ≡ 0) × (eventOf k t a v .value ≡ 0)
-unfolding eventOf
-cleared k t a v h = by (bare k) refl h
-  where
-    by : (x : Bool) → bare k ≡ x
-        → let e : Event = cond {A = Event} x (record { kind = k; thread = t; address = 0; value = 0 }) (record { kind = k; thread = t; address = a; value = v }) in
-        bare (e .kind) ≡ true → (e .address ≡ 0) × (e .value ≡ 0)
-    by true e h = (refl, refl)
-    by false e h = absurd (true≢false (sym h ∙ e))
+cleared k t a v =
+    event-by (λ e. bare (e .kind) ≡ true → (e .address ≡ 0) × (e .value ≡ 0)) k t a v (λ h z. (refl, refl)) (λ h z. absurd (true≢false (sym z ∙ h)))
 
 byte-at : (s : List ℕ) → Bytes s → (i : ℕ) → getD s i 0 < 256
 byte-at s b i = by (decLt i (length s))

@@ -10,9 +10,10 @@ use lib.Dec.{eqb, ltb}
 use lib.Bits.{bitOr}
 use lib.ListN.{getD}
 use borrow.Author.Tests.{lt-ltb, le-ltb, eq-eqb, ne-eqb, not-true, not-false}
-use Rattle.finite.specs.Tests.{count, tick}
+use Rattle.finite.specs.Tests.{count}
 use Rattle.finite.specs.Lists.{table}
-use Rattle.finite.proofs.Tests.{or-false}
+use Rattle.finite.proofs.Tests.{or-false, count-le}
+use Rattle.finite.proofs.Lists.{table-more, table-turn, table-end}
 use Rattle.bits.specs.Bit.{bit}
 use Rattle.bits.proofs.Bits.{bit-zero, bit-with}
 use Rattle.model.specs.Limits.{mostEvents}
@@ -22,35 +23,7 @@ use Rattle.model.specs.Record.{member}
 use Rattle.model.specs.Fault.{firstFault, writeFault, writesFault}
 use Rattle.case.specs.Stores.{storeAt, writesAt}
 
--- ---- general laws
-
-pub count-le : (k : ℕ) (f : ℕ → Bool) → count k f ≤ k
-unfolding count
-count-le zero f = omega arith
-count-le (suc k) f = go (f k) (count-le k f)
-  where
-    go : (b : Bool) → count k f ≤ k → count k f + tick b ≤ suc k
-    go true h = omega arith
-    go false h = omega arith
-
-module _ {A : Type 0} (f : ℕ → A) where
-  pub table-snoc : (i j : ℕ) → table i (suc j) f ≡ table i j f ++ (f (i + j) ∷ [])
-  unfolding table
-  table-snoc i zero = let z : i + 0 ≡ i = omega arith in rw z
-  table-snoc i (suc j) = let z : i + suc j ≡ suc i + j = omega arith in rw z (ap (λ (l : List A). f i ∷ l) (table-snoc (suc i) j))
-
-  pub table-more : (i : ℕ) → table 0 (i + 1) f ≡ table 0 i f ++ (f i ∷ [])
-  table-more i = let z : 0 + i ≡ i = omega arith in rw (add-one i, table-snoc 0 i, z)
-
-  -- what is left of a table of n, from i on
-  pub table-turn : (i n : ℕ) → i < n → table i (n - i) f ≡ f i ∷ table (i + 1) (n - (i + 1)) f
-  unfolding table
-  table-turn i n h = let z : n - i ≡ suc (n - (i + 1)) = omega arith in rw (z, add-one i)
-
-  pub table-end : (i n : ℕ) → n ≤ i → table i (n - i) f ≡ []
-  unfolding table
-  table-end i n h = let z : n - i ≡ 0 = omega arith in rw z
-
+-- ---- members
 pub member-snoc : (j : ℕ) (xs : List ℕ) (v : ℕ) → member j (xs ++ (v ∷ [])) ≡ (member j xs || eqb j v)
 unfolding member
 member-snoc j [] v = or-false (eqb j v)
@@ -76,30 +49,6 @@ module _ (ks as′ : List ℕ) (x : ℕ) where
   pub not-mine : (e listed : ℕ) (t : Bool) → t ≡ storeAt ks as′ x e → t ≡ false → false ≡ (storeAt ks as′ x e && not (bit listed e))
   not-mine e listed t et y = rw (← et, y)
 
-  -- n of the events below e are stores to x
-  pub record Counting (k n e : ℕ) : Type 0 where
-    pub counted : n ≡ count e (storeAt ks as′ x)
-    pub few : n ≤ e
-    pub within : e ≤ k
-
-  pub counting-begun : (k : ℕ) → Counting k 0 0
-  unfolding count
-  counting-begun k = record { counted = refl; few = omega arith; within = omega arith }
-
-  pub counted-all : (k n e : ℕ) → Counting k n e → k ≤ e → n ≡ count k (storeAt ks as′ x)
-  counted-all k n e h l = let z : e ≡ k = omega (arith, h .within) in rw (← z) (h .counted)
-
-  count-next : (e : ℕ) → count (e + 1) (storeAt ks as′ x) ≡ count e (storeAt ks as′ x) + tick (storeAt ks as′ x e)
-  unfolding count
-  count-next e = rw (add-one e)
-
-  module _ (k n e : ℕ) (h : Counting k n e) (l : e < k) (t : Bool) (et : t ≡ storeAt ks as′ x e) (n′ : ℕ) where
-    pub one-counted : t ≡ true → n′ ≡ n + 1 → Counting k n′ (e + 1)
-    one-counted y u = record { counted = rw (count-next e, ← et, y) (u ∙ rw (← h .counted)); few = omega (arith, h .few); within = omega arith }
-
-    pub not-counted : t ≡ false → n′ ≡ n → Counting k n′ (e + 1)
-    not-counted y u = record { counted = rw (count-next e, ← et, y) (u ∙ h .counted ∙ omega arith); few = omega (arith, h .few); within = omega arith }
-
 -- ---- the fault of one write order: the entries below i passed, and listed are those
 module _ (k : ℕ) (mine : ℕ → Bool) (f : ℕ → ℕ) (n : ℕ) where
   pub record Listing (listed i : ℕ) : Type 0 where
@@ -114,14 +63,14 @@ module _ (k : ℕ) (mine : ℕ → Bool) (f : ℕ → ℕ) (n : ℕ) where
   module _ (listed i : ℕ) (L : Listing listed i) where
     pub listing-done : n ≤ i → 0 ≡ writeFault k mine [] (table 0 n f)
     unfolding writeFault
-    listing-done h = sym (ap (writeFault k mine (table 0 i f)) (table-end f i n h)) ∙ L .same
+    listing-done h = sym (ap (writeFault k mine (table 0 i f)) (table-end i n f h)) ∙ L .same
 
     module _ (h : i < n) (e : ℕ) (ee : e ≡ f i) where
       here : orElse (ltb e k) 3 (orElse (mine e && not (bit listed e)) 4 (writeFault k mine (table 0 (i + 1) f) (table (i + 1) (n - (i + 1)) f))) ≡ writeFault k mine [] (table 0 n f)
       unfolding writeFault
       here =
-          rw (ee, L .marked (f i), table-more f i)
-          (ap (writeFault k mine (table 0 i f)) (sym (table-turn f i n h)) ∙ L .same)
+          rw (ee, L .marked (f i), table-more i f)
+          (ap (writeFault k mine (table 0 i f)) (sym (table-turn i n f h)) ∙ L .same)
 
       pub no-event : k ≤ e → 3 ≡ writeFault k mine [] (table 0 n f)
       no-event g = rw (le-ltb e k g) at here
@@ -134,7 +83,7 @@ module _ (k : ℕ) (mine : ℕ → Bool) (f : ℕ → ℕ) (n : ℕ) where
         one-listed listed′ el t = record {
           within = omega arith;
           marked = λ j. ap (λ (s : ℕ). bit s j) el ∙ bit-with listed e j ∙ ap (λ (b : Bool). b || eqb j e) (L .marked j)
-              ∙ ap (λ (v : ℕ). member j (table 0 i f) || eqb j v) ee ∙ sym (member-snoc j (table 0 i f) (f i)) ∙ ap (member j) (sym (table-more f i));
+              ∙ ap (λ (v : ℕ). member j (table 0 i f) || eqb j v) ee ∙ sym (member-snoc j (table 0 i f) (f i)) ∙ ap (member j) (sym (table-more i f));
           same = rw (lt-ltb e k g, ← er, not-false r t) at here;
         }
 
@@ -147,8 +96,8 @@ pub of-order : (ks as′ ws : List ℕ) (k x n r : ℕ) → n ≡ count k (store
 unfolding writesAt
 of-order ks as′ ws k x n r e h = rw e at h
 
-pub few-stores : (k n : ℕ) (f : ℕ → Bool) (i : ℕ) → k ≤ mostEvents → n ≡ count k f → i < n → i < mostEvents
-few-stores k n f i h e l = omega (arith, count-le k f)
+pub few-stores : (k n : ℕ) (f : ℕ → Bool) → k ≤ mostEvents → n ≡ count k f → n ≤ mostEvents
+few-stores k n f h e = omega (arith, count-le k f)
 
 -- ---- the first fault of the write orders
 pub first-fault : (x y : ℕ) → (x ≡ 0 → ⊥) → firstFault x y ≡ x
@@ -166,12 +115,12 @@ module _ (k : ℕ) (mine : ℕ → ℕ → Bool) (g : ℕ → List ℕ) (m : ℕ
   module _ (x : ℕ) (F : Faultless x) where
     pub none-at-all : m ≤ x → 0 ≡ writesFault k mine 0 (table 0 m g)
     unfolding writesFault
-    none-at-all h = sym (ap (writesFault k mine x) (table-end g x m h)) ∙ F .same
+    none-at-all h = sym (ap (writesFault k mine x) (table-end x m g h)) ∙ F .same
 
     module _ (h : x < m) (r : ℕ) (er : r ≡ writeFault k (mine x) [] (g x)) where
       there : firstFault r (writesFault k mine (x + 1) (table (x + 1) (m - (x + 1)) g)) ≡ writesFault k mine 0 (table 0 m g)
       unfolding writesFault
-      there = rw (er, add-one x) (rw (add-one x) at (ap (writesFault k mine x) (sym (table-turn g x m h)) ∙ F .same))
+      there = rw (er, add-one x) (rw (add-one x) at (ap (writesFault k mine x) (sym (table-turn x m g h)) ∙ F .same))
 
       pub found-one : (r ≡ 0 → ⊥) → r ≡ writesFault k mine 0 (table 0 m g)
       found-one n = sym (first-fault r _ n) ∙ there

@@ -2,11 +2,11 @@
 -- Assumes nothing.
 use Prim.Native.Nat.{ℕ, _+_, _*_, _≤_, _<_}
 use mathlib.Core.Path.{_≡_}
-use mathlib.Core.Bool.{Bool, false}
+use mathlib.Core.Bool.{false}
 use lib.ListN.{getD}
 use Rattle.finite.specs.Tests.{count}
 use Rattle.model.specs.Limits.{mostEdition, mostThreads, mostAddresses, mostEvents, mostValue, mostName}
-use Rattle.model.specs.Case.{Case, mostKind, bare}
+use Rattle.model.specs.Case.{mostKind, bare}
 use Rattle.model.specs.Record.{storeTo}
 use Rattle.case.specs.declared.Case.{Case as Held}
 use Rattle.case.specs.Held.{caseOf}

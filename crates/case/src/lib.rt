@@ -197,9 +197,9 @@ fn events_good<'a>(
 }
 
 // Whether event e is a store to x.
-pub fn store_at<'a>(
-    kinds: &'a [u8; Case::MOST_EVENTS],
-    targets: &'a [u8; Case::MOST_EVENTS],
+pub fn store_at(
+    kinds: &[u8; Case::MOST_EVENTS],
+    targets: &[u8; Case::MOST_EVENTS],
     x: usize,
     e: usize,
 ) -> bool
@@ -213,9 +213,9 @@ pub fn store_at<'a>(
 }
 
 // How many of k events are stores to x.
-pub fn count_stores<'a>(
-    kinds: &'a [u8; Case::MOST_EVENTS],
-    targets: &'a [u8; Case::MOST_EVENTS],
+pub fn count_stores(
+    kinds: &[u8; Case::MOST_EVENTS],
+    targets: &[u8; Case::MOST_EVENTS],
     k: usize,
     x: usize,
 ) -> usize
@@ -246,9 +246,9 @@ pub fn write_at(
 }
 
 // Whether event e is a store to x that is not listed yet.
-fn unlisted<'a>(
-    kinds: &'a [u8; Case::MOST_EVENTS],
-    targets: &'a [u8; Case::MOST_EVENTS],
+fn unlisted(
+    kinds: &[u8; Case::MOST_EVENTS],
+    targets: &[u8; Case::MOST_EVENTS],
     x: usize,
     e: usize,
     listed: u64,
@@ -263,10 +263,10 @@ fn unlisted<'a>(
 }
 
 // The fault of the write order of x; 0 if there is none.
-fn write_fault<'a>(
-    kinds: &'a [u8; Case::MOST_EVENTS],
-    targets: &'a [u8; Case::MOST_EVENTS],
-    writes: &'a [u8; Case::MOST_ADDRESSES * Case::MOST_EVENTS],
+fn write_fault(
+    kinds: &[u8; Case::MOST_EVENTS],
+    targets: &[u8; Case::MOST_EVENTS],
+    writes: &[u8; Case::MOST_ADDRESSES * Case::MOST_EVENTS],
     k: usize,
     x: usize,
 ) -> u8

@@ -1,7 +1,8 @@
 -- Laws of `table` and `each`.
 -- Assumes nothing.
-use Prim.Native.Nat.{ℕ, zero, suc, _+_, _≤_, _<_}
+use Prim.Native.Nat.{ℕ, zero, suc, _+_, _-_, _≤_, _<_}
 use native.Mathlib.Nat.{add-zero, add-suc, suc-add, zero-add, not-suc-le-zero, le-of-suc-le-suc}
+use native.Mathlib.Numerals.{add-one}
 use native.Mathlib.Omega.{arith}
 use mathlib.Core.Path.{_≡_, refl, sym, ap, ap₂, _∙_}
 use mathlib.Core.List.{List, [], _∷_, _++_, append-assoc}
@@ -41,6 +42,24 @@ module _ {A : Type 0} where
   as-table l d j e =
       ext-getD d l (table 0 j (λ y. getD l y d)) (e ∙ sym (table-length 0 j _))
       (λ i h. sym (table-get j (λ y. getD l y d) i d (rw e at h)))
+
+  -- one more place
+  pub table-snoc : (i j : ℕ) (f : ℕ → A) → table i (suc j) f ≡ table i j f ++ (f (i + j) ∷ [])
+  unfolding table
+  table-snoc i zero f = rw add-zero
+  table-snoc i (suc j) f = ap (λ (l : List A). f i ∷ l) (table-snoc (suc i) j f ∙ simp (add-suc, suc-add))
+
+  pub table-more : (i : ℕ) (f : ℕ → A) → table 0 (i + 1) f ≡ table 0 i f ++ (f i ∷ [])
+  table-more i f = rw (add-one, table-snoc) (simp zero-add)
+
+  -- what is left of a table of n places, from i on
+  pub table-turn : (i n : ℕ) (f : ℕ → A) → i < n → table i (n - i) f ≡ f i ∷ table (i + 1) (n - (i + 1)) f
+  unfolding table
+  table-turn i n f h = let z : n - i ≡ suc (n - (i + 1)) = omega arith in rw (z, add-one i)
+
+  pub table-end : (i n : ℕ) (f : ℕ → A) → n ≤ i → table i (n - i) f ≡ []
+  unfolding table
+  table-end i n f h = let z : n - i ≡ 0 = omega arith in rw z
 
   pub each-append : (f : A → List ℕ) (xs ys : List A) → each f (xs ++ ys) ≡ each f xs ++ each f ys
   unfolding each

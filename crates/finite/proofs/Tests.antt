@@ -2,7 +2,7 @@
 -- Assumes nothing.
 use mathlib.Core.Path.{_≡_, refl, sym, ap, ap₂, _∙_, subst}
 use mathlib.Core.Bool.{Bool, true, false, not, cond, _&&_, _||_, true≢false, false≢true}
-use mathlib.Core.Logic.{⊎-elim, _⊎_, inl, inr}
+use mathlib.Core.Logic.{⊎-elim, _⊎_}
 use Prim.Native.Nat.{ℕ, zero, suc, _+_, _≤_, _<_}
 use native.Mathlib.Nat.{eq-or-lt-of-le, le-of-suc-le-suc, not-suc-le-zero, le-refl, le-antisymm}
 use borrow.Author.Tests.{not-true, not-false, lt-ltb, ltb-true, eq-eqb, eqb-true}
@@ -32,6 +32,14 @@ and-r false y e = absurd (false≢true e)
 pub and-i : (x y : Bool) → x ≡ true → y ≡ true → (x && y) ≡ true
 and-i true y e h = h
 and-i false y e h = e
+
+pub and-true : (x : Bool) → (x && true) ≡ x
+and-true true = refl
+and-true false = refl
+
+pub and-false : (x : Bool) → (x && false) ≡ false
+and-false true = refl
+and-false false = refl
 
 pub imp-e : (x y : Bool) → (x ⇒ y) ≡ true → x ≡ true → y ≡ true
 imp-e true y h e = h
@@ -213,6 +221,25 @@ pub count-same : (n : ℕ) (p q : ℕ → Bool) → ((i : ℕ) → i < n → p i
 unfolding count
 count-same zero p q f = refl
 count-same (suc n) p q f = ap₂ (λ x y. x + tick y) (count-same n p q (λ i l. f i (omega arith))) (f n (omega arith))
+
+-- one more number
+pub count-more : (n : ℕ) (p : ℕ → Bool) → count (n + 1) p ≡ count n p + tick (p n)
+unfolding count
+count-more n p = rw add-one
+
+pub tick-le : (b : Bool) → tick b ≤ 1
+tick-le true = omega arith
+tick-le false = omega arith
+
+pub count-le : (n : ℕ) (p : ℕ → Bool) → count n p ≤ n
+unfolding count
+count-le zero p = omega arith
+count-le (suc n) p = omega (arith, count-le n p, tick-le (p n))
+
+-- ---- equal numbers
+
+pub eqb-sym : (a b : ℕ) → eqb a b ≡ eqb b a
+eqb-sym a b = iff (λ h. eq-eqb b a (sym (eqb-true a b h))) (λ h. eq-eqb a b (sym (eqb-true b a h)))
 
 -- ---- tests as propositions
 

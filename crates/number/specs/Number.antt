@@ -1,7 +1,7 @@
 -- A record's numbers: groups of seven bits, lowest group first, shortest form.
 use Prim.Native.Nat.{ℕ, zero, suc, _+_, _-_, _*_, _/_, _%_}
 use mathlib.Core.List.{List, [], _∷_, _++_}
-use mathlib.Core.Bool.{Bool, true, false, cond}
+use mathlib.Core.Bool.{cond}
 use lib.ListN.{length, take, drop}
 use lib.Dec.{ltb}
 use Rattle.number.specs.declared.NumberRead.{NumberRead}

@@ -1,6 +1,6 @@
 // A record's numbers: groups of seven bits, lowest group first, shortest form.
 ghost use mathlib.Core.Path.{_≡_};
-ghost use Prim.Native.Nat.{ℕ, _+_, _≤_, _<_};
+ghost use Prim.Native.Nat.{_+_, _≤_, _<_};
 ghost use lib.ListN.{length};
 ghost use Rattle.number.specs.Number.{readNumber, encode, splice};
 ghost use Rattle.number.specs.Reader.{numberOut, refusalOf, within};

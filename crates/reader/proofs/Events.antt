@@ -23,7 +23,7 @@ use Rattle.reader.specs.declared.Event as code
 use Rattle.reader.specs.declared.EventRead.{EventRead}
 use Rattle.reader.specs.declared.EventRead.the-variants as the
 use Rattle.reader.specs.declared.PlaceRead.the-variants as place
-use Rattle.reader.proofs.Pad.{pad-next}
+use Rattle.case.proofs.Pad.{pad-next}
 use Rattle.reader.proofs.Filling.{Filling, filling-begun, filling-all, filling-stop, filling-next}
 
 -- a number that was read fits a byte where its limit does

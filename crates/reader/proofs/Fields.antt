@@ -12,7 +12,8 @@ use Rattle.number.specs.declared.NumberRead.the-variants.{Number, Refused}
 use Rattle.number.proofs.Laws.{read-within}
 use Rattle.model.specs.Limits.{leastEdition, mostEdition, mostThreads, mostAddresses, mostEvents, mostValue, mostName}
 use Rattle.model.specs.Record.{event, nextWriteOrder, order, bytes, Listing, Rest, head, listing, rest}
-use Rattle.reader.specs.Answers.{Stores, Padded, Tabled, Events, storeAt, headOut, StoresCounted, ListingStored, RestStored, refusedAt}
+use Rattle.case.specs.Stores.{storeAt}
+use Rattle.reader.specs.Answers.{Stores, Padded, Tabled, Events, headOut, StoresCounted, ListingStored, RestStored, refusedAt}
 use Rattle.reader.specs.declared.HeadRead.the-variants as the
 use Rattle.reader.specs.declared.CountRead.the-variants as counted
 use Rattle.reader.specs.declared.PlaceRead.{PlaceRead}

@@ -14,7 +14,7 @@ use Rattle.model.specs.Limits.{mostAddresses, mostValue}
 use Rattle.case.specs.Held.{pad}
 use Rattle.reader.specs.Answers.{Stores, Padded}
 use Rattle.reader.specs.declared.PlaceRead.the-variants as place
-use Rattle.reader.proofs.Pad.{pad-set}
+use Rattle.case.proofs.Pad.{pad-set}
 use Rattle.reader.proofs.Filling.{Filling, filling-begun, filling-all, filling-stop, filling-next}
 
 abbrev pub Initials : (s : List ℕ) (at m : ℕ) (array : List ℕ) (place x : ℕ) → Type 0

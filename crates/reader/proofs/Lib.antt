@@ -1,6 +1,5 @@
 pub mod Forward
 pub mod Filling
-pub mod Pad
 pub mod Events
 pub mod Orders
 pub mod Initials

@@ -13,7 +13,7 @@ use Rattle.model.specs.Record.{bytes}
 use Rattle.case.specs.Held.{pad}
 use Rattle.reader.specs.Answers.{Stores, Padded}
 use Rattle.reader.specs.declared.PlaceRead.the-variants as place
-use Rattle.reader.proofs.Pad.{pad-set}
+use Rattle.case.proofs.Pad.{pad-set}
 
 module _ (s : List ℕ) (at i : ℕ) where
   pub name-past : (S : List ℕ → Type 0) → length s < at → Stores S (bytes i s at) (place.Refused (record { number = 1; place = at }))

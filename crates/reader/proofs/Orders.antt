@@ -6,7 +6,7 @@ use mathlib.Core.List.{List}
 use native.Mathlib.Omega.{arith}
 use native.Mathlib.Nat.{mul-le-mul}
 use lib.Bits.{bitOr}
-use lib.ListN.{length, getD, set, replicate, length-set, length-replicate, List·getD-append, replicate-append-replicate}
+use lib.ListN.{length, getD, set, replicate, length-set, length-replicate, replicate-append-replicate}
 use lib.Seq.{set-append-left}
 use borrow.Author.Tests.{le-leb, lt-leb}
 use mir.Syntax.{w64, w32}
@@ -21,6 +21,7 @@ use Rattle.number.proofs.Turns.{turns-none, turns-stop, turns-next}
 use Rattle.model.specs.Limits.{mostEvents}
 use Rattle.model.specs.Record.{Pair, Rows, pair, risingPair, withPair, nextPair, order}
 use Rattle.case.specs.Held.{pad}
+use Rattle.case.proofs.Pad.{pad-get}
 use Rattle.reader.specs.Answers.{Stores, Padded, pairOut}
 use Rattle.reader.specs.declared.PairRead.{PairRead}
 use Rattle.reader.specs.declared.PairRead.the-variants as the
@@ -108,10 +109,6 @@ zeros n k h =
 pad-put : (n : ℕ) (xs : List ℕ) (a v : ℕ) → a < length xs → set (pad n xs) a v ≡ pad n (set xs a v)
 unfolding pad
 pad-put n xs a v h = simp (set-append-left, length-set)
-
-pad-get : (n : ℕ) (xs : List ℕ) (a : ℕ) → a < length xs → getD (pad n xs) a 0 ≡ getD xs a 0
-unfolding pad
-pad-get n xs a h = List·getD-append xs _ 0 a h
 
 module _ (s : List ℕ) (at k : ℕ) (array₀ : List ℕ) where
   pub no-count : (r₁ : NumberRead) (f : Refusal) (x p : ℕ) (array : List ℕ)

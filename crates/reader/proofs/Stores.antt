@@ -1,21 +1,17 @@
 -- The ways through reading a store's number, and the turns of counting stores and of reading a write order.
 -- Assumes nothing.
-use Prim.Native.Nat.{ℕ, zero, suc, _+_, _-_, _^_, _≤_, _<_}
+use Prim.Native.Nat.{ℕ, _+_, _-_, _^_, _≤_, _<_}
 use mathlib.Core.Path.{_≡_, refl, ap, sym, _∙_}
-use mathlib.Core.Bool.{Bool, true, false, _||_}
-use mathlib.Core.List.{List, [], _∷_, _++_}
+use mathlib.Core.Bool.{Bool, true, false}
+use mathlib.Core.List.{List}
 use native.Mathlib.Omega.{arith}
-use native.Mathlib.Numerals.{add-one}
-use lib.Dec.{eqb}
-use lib.ListN.{length, getD, set, replicate, length-append, length-set, length-replicate}
-use borrow.Author.Tests.{eq-eqb, ne-eqb}
+use lib.ListN.{length, set, replicate, length-append, length-set, length-replicate}
 use mir.Syntax.{w8}
 use mir.Val.{Fits}
-use Rattle.finite.specs.Tests.{count, tick}
+use Rattle.finite.specs.Tests.{count}
 use Rattle.bits.specs.Bit.{bit, width}
 use Rattle.bits.proofs.Bits.{bit-zero, bit-with}
 use lib.Bits.{bitOr}
-use Rattle.model.specs.Case.{store}
 use Rattle.reader.proofs.Forward.{gone, forward-unlisted}
 use Rattle.number.specs.Number.{readNumber}
 use Rattle.number.specs.Reader.{Out, stop, next, unless, upTo, below, numberOut, refusalOf}
@@ -26,53 +22,14 @@ use Rattle.number.proofs.Laws.{read-within}
 use Rattle.model.specs.Limits.{mostEvents}
 use Rattle.model.specs.Record.{member, unlisted, writeOrder}
 use Rattle.case.specs.Held.{pad}
-use Rattle.reader.specs.Answers.{Stores, Padded, storeAt}
+use Rattle.reader.specs.Answers.{Stores, Padded}
 use Rattle.reader.specs.declared.PlaceRead.{PlaceRead}
 use Rattle.reader.specs.declared.PlaceRead.the-variants as place
-use Rattle.reader.proofs.Pad.{pad-set}
+use Rattle.case.specs.Stores.{storeAt}
+use Rattle.case.proofs.Pad.{pad-set}
+use Rattle.case.proofs.WriteOrders.{member-snoc}
+use Rattle.finite.proofs.Tests.{count-le}
 use Rattle.reader.proofs.Filling.{Filling, filling-begun, filling-all, filling-stop, filling-next}
-
-module _ (ks ts : List ℕ) (x : ℕ) where
-  pub is-store : (e w : ℕ) → w ≡ getD ts e 0 → getD ks e 0 ≡ store → eqb w x ≡ storeAt ks ts x e
-  unfolding storeAt
-  is-store e w ew k = rw (ew, eq-eqb _ _ k)
-
-  pub no-store : (e : ℕ) → (getD ks e 0 ≡ store → ⊥) → eqb (getD ks e 0) store ≡ storeAt ks ts x e
-  unfolding storeAt
-  no-store e k = rw (ne-eqb _ _ k)
-
-  -- n of the events below e are stores to x
-  pub record Counting (k n e : ℕ) : Type 0 where
-    pub counted : n ≡ count e (storeAt ks ts x)
-    pub few : n ≤ e
-    pub within : e ≤ k
-
-  pub counting-begun : (k : ℕ) → Counting k 0 0
-  unfolding count
-  counting-begun k = record { counted = refl; few = omega arith; within = omega arith }
-
-  pub counted-all : (k n e : ℕ) → Counting k n e → k ≤ e → n ≡ count k (storeAt ks ts x)
-  counted-all k n e h l = let z : e ≡ k = omega (arith, h .within) in rw (← z) (h .counted)
-
-  count-next : (e : ℕ) → count (e + 1) (storeAt ks ts x) ≡ count e (storeAt ks ts x) + tick (storeAt ks ts x e)
-  unfolding count
-  count-next e = rw (add-one e)
-
-  module _ (k n e : ℕ) (h : Counting k n e) (l : e < k) (t : Bool) (et : t ≡ storeAt ks ts x e) (n′ : ℕ) where
-    pub one-counted : t ≡ true → n′ ≡ n + 1 → Counting k n′ (e + 1)
-    one-counted y u = record { counted = rw (count-next e, ← et, y) (u ∙ rw (← h .counted)); few = omega (arith, h .few); within = omega arith }
-
-    pub not-counted : t ≡ false → n′ ≡ n → Counting k n′ (e + 1)
-    not-counted y u = record { counted = rw (count-next e, ← et, y) (u ∙ h .counted ∙ omega arith); few = omega (arith, h .few); within = omega arith }
-
-count-le : (k : ℕ) (f : ℕ → Bool) → count k f ≤ k
-unfolding count
-count-le zero f = omega arith
-count-le (suc k) f = go (f k) (count-le k f)
-  where
-    go : (b : Bool) → count k f ≤ k → count k f + tick b ≤ suc k
-    go true h = omega arith
-    go false h = omega arith
 
 module _ (s : List ℕ) (at k x : ℕ) (ks ts : List ℕ) (listed : ℕ) where
   pub no-number : (r : NumberRead) (y p : ℕ) → r ≡ readNumber s at (k - 1) → r ≡ Refused y p → numberOut r ≡ unlisted k (storeAt ks ts x) (bit listed) s at
@@ -98,19 +55,6 @@ module _ (s : List ℕ) (at k x : ℕ) (ks ts : List ℕ) (listed : ℕ) where
       pub is-unlisted : (b : Bool) → b ≡ bit listed v → t ≡ true → b ≡ false → next v p ≡ unlisted k (storeAt ks ts x) (bit listed) s at
       unfolding unlisted unless below upTo
       is-unlisted b eb y z = rw (← e, u, ← et, y, ← eb, z)
-
-member-snoc : (j : ℕ) (xs : List ℕ) (v : ℕ) → member j (xs ++ (v ∷ [])) ≡ (member j xs || eqb j v)
-unfolding member
-member-snoc j [] v = go (eqb j v)
-  where
-    go : (b : Bool) → (b || false) ≡ (false || b)
-    go true = refl
-    go false = refl
-member-snoc j (y ∷ xs) v = go (eqb j y) (member-snoc j xs v)
-  where
-    go : (b : Bool) → member j (xs ++ (v ∷ [])) ≡ (member j xs || eqb j v) → (b || member j (xs ++ (v ∷ []))) ≡ ((b || member j xs) || eqb j v)
-    go true e = refl
-    go false e = e
 
 -- the stores read stand in the array, and are marked
 pub record Listed (array : List ℕ) (marks : ℕ) (before : List ℕ) : Type 0 where

@@ -1,63 +1,33 @@
 -- The turns of reading lists, each into its own part of an array.
 -- Assumes nothing.
-use Prim.Native.Nat.{ℕ, zero, suc, _+_, _-_, _*_, _≤_, _<_}
+use Prim.Native.Nat.{ℕ, _+_, _-_, _*_, _≤_, _<_}
 use mathlib.Core.Path.{_≡_, refl, ap, _∙_}
-use mathlib.Core.List.{List, [], _∷_, _++_, append-assoc, append-nil}
+use mathlib.Core.List.{List, [], _∷_, _++_}
 use native.Mathlib.Omega.{arith}
 use lib.ListN.{length, take, drop, replicate, length-append, length-take, length-drop, length-replicate}
-use lib.Seq.{take-at, drop-at}
 use Rattle.number.specs.Reader.{Out, Reader, turns, another, times}
 use Rattle.model.specs.Limits.{mostThreads, mostAddresses, mostEvents}
 use Rattle.model.specs.Record.{order, writeOrder, nextWriteOrder}
 use Rattle.case.specs.Held.{pad, rowsOf}
-use Rattle.reader.specs.Answers.{Stores, Padded, Tabled, storeAt}
+use Rattle.case.specs.Stores.{storeAt}
+use Rattle.case.proofs.Pad.{length-pad, rowsOf-snoc, part-zeros, part-stored}
+use Rattle.reader.specs.Answers.{Stores, Padded, Tabled}
 use Rattle.number.specs.declared.Refusal.{Refusal}
 use Rattle.reader.specs.declared.PlaceRead.{PlaceRead}
 use Rattle.reader.specs.declared.PlaceRead.the-variants as place
 use borrow.Rule.Slice.PartMut.{putMid}
 use Rattle.reader.proofs.Filling.{Filling, filling-begun, filling-all, filling-stop, filling-next, stop-of, next-of}
 
-pub length-pad : (n : ℕ) (xs : List ℕ) → length xs ≤ n → length (pad n xs) ≡ n
-unfolding pad
-length-pad n xs h = simp (length-append, length-replicate) (omega arith)
-
-take-zeros : (a b : ℕ) → a ≤ b → take {A = ℕ} a (replicate b 0) ≡ replicate a 0
-take-zeros zero b h = refl
-take-zeros (suc a) zero h = absurd (omega arith)
-take-zeros (suc a) (suc b) h = ap (λ (l : List ℕ). 0 ∷ l) (take-zeros a b (omega arith))
-
-drop-zeros : (a b : ℕ) → drop {A = ℕ} a (replicate b 0) ≡ replicate (b - a) 0
-drop-zeros zero b = let z : b - 0 ≡ b = omega arith in rw z
-drop-zeros (suc a) zero = let z : 0 - suc a ≡ 0 = omega arith in rw z
-drop-zeros (suc a) (suc b) = let z : suc b - suc a ≡ b - a = omega arith in rw z (drop-zeros a b)
-
-rowsOf-snoc : (n : ℕ) (rs : List (List ℕ)) (r : List ℕ) → rowsOf n (rs ++ (r ∷ [])) ≡ rowsOf n rs ++ pad n r
-unfolding rowsOf
-rowsOf-snoc n [] r = append-nil (pad n r)
-rowsOf-snoc n (x ∷ rs) r = rw (rowsOf-snoc n rs r, append-assoc)
-
--- a table's next part holds zeros, and with a list stored there the table has that list too
+-- with a list stored in its next part a table has that list too
 module _ (total : ℕ) (array : List ℕ) (rs : List (List ℕ)) (a w : ℕ) (h : Tabled total array rs) (ea : length rs * mostEvents ≡ a) (ew : w ≡ mostEvents) (fits : a + mostEvents ≤ total) where
-  pub part-zeros : take w (drop a array) ≡ replicate mostEvents 0
-  unfolding pad
-  part-zeros =
-      let l : length (rowsOf mostEvents rs) ≡ a = h .long ∙ ea in
-      rw (h .stored, drop-at (rowsOf mostEvents rs) _ a l, l, ew) (take-zeros mostEvents (total - a) (omega arith))
-
-  pub part-stored : (part xs : List ℕ) → Padded mostEvents part xs → Tabled total (putMid a w array part) (rs ++ (xs ∷ []))
-  unfolding pad
-  part-stored part xs t =
+  list-stored : (part xs : List ℕ) → Padded mostEvents part xs → Tabled total (putMid a w array part) (rs ++ (xs ∷ []))
+  list-stored part xs t =
       let l : length (rowsOf mostEvents rs) ≡ a = h .long ∙ ea in
       let lp : length part ≡ mostEvents = ap length (t .stored) ∙ length-pad mostEvents xs (t .long) in
-      let left : total - a - mostEvents ≡ total - (a + mostEvents) = omega arith in
-      let front : take a array ≡ rowsOf mostEvents rs = rw (h .stored) (take-at (rowsOf mostEvents rs) _ a l) in
-      let back : drop w (drop a array) ≡ replicate (total - (a + mostEvents)) 0 =
-      rw (h .stored, drop-at (rowsOf mostEvents rs) _ a l, l, ew, drop-zeros) (rw left) in
       let whole : rowsOf mostEvents (rs ++ (xs ∷ [])) ≡ rowsOf mostEvents rs ++ part = rowsOf-snoc mostEvents rs xs ∙ rw (t .stored) in
-      let size : length (rowsOf mostEvents rs ++ part) ≡ a + mostEvents = simp (length-append) (omega (arith, l, lp)) in
       record {
-        stored = rw (front, back, whole, size, append-assoc);
-        long = rw (whole, size) (simp length-append (omega (arith, ea)));
+        stored = part-stored total mostEvents array (rowsOf mostEvents rs) a w (h .stored) l ew fits part lp ∙ rw whole;
+        long = rw whole (simp length-append (omega (arith, l, lp, ea)));
       }
 
 -- of n lists, for which there is room for most, p are read, each by r at its number
@@ -85,7 +55,7 @@ module _ (most : ℕ) (r : ℕ → Reader (List ℕ)) (all : Out (List (List ℕ
     pub table-room : n ≤ most → (w : ℕ) → w ≡ mostEvents → take w (drop (p * mostEvents) array) ≡ replicate mostEvents 0
     table-room b w e =
         let in-room : p * mostEvents + mostEvents ≤ most * mostEvents = omega arith in
-        part-zeros (most * mostEvents) array (h .filling .read) (p * mostEvents) w (h .filling .stored) (rw (h .filling .count)) e in-room
+        part-zeros (most * mostEvents) mostEvents array _ (p * mostEvents) w (h .filling .stored .stored) (h .filling .stored .long ∙ rw (h .filling .count)) e in-room
 
     module _ (last : List ℕ) (res : PlaceRead) (g : Stores (Padded mostEvents last) (r p s p₀) res) where
       pub table-stop : (S : List (List ℕ) → Type 0) (f : Refusal) → res ≡ place.Refused f → Stores S all res
@@ -100,13 +70,10 @@ module _ (most : ℕ) (r : ℕ → Reader (List ℕ)) (all : Out (List (List ℕ
           simp (length-append, length-take, length-drop) (omega (arith, h .room)) in
           record {
             filling = filling-next _ _ _ _ _ _ _ (h .filling) l (d .what) q (λ rs c _. rw c (d .is)) (Tabled (most * mostEvents) (putMid (p * mostEvents) w array last))
-                (λ rs c t. part-stored (most * mostEvents) array rs (p * mostEvents) w t (rw c) e in-room last (d .what) (d .stored));
+                (λ rs c t. list-stored (most * mostEvents) array rs (p * mostEvents) w t (rw c) e in-room last (d .what) (d .stored));
             room = size ∙ h .room;
             kept = size ∙ h .kept;
           }
-
-pub step-size : (p : ℕ) → p * mostEvents + mostEvents - p * mostEvents ≡ mostEvents
-step-size p = omega arith
 
 -- the threads' orders
 abbrev pub Orders : (s : List ℕ) (at n k : ℕ) (array₀ array : List ℕ) (place p : ℕ) → Type 0

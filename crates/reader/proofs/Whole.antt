@@ -14,7 +14,8 @@ use Rattle.model.specs.Case.{Case, Event, noEvent}
 use Rattle.model.specs.Record.{storeTo, head, listing, rest, case, read}
 use Rattle.model.specs.Answers.{namePart, name as nameOf}
 use Rattle.case.specs.Held.{pad, held, emptyCase}
-use Rattle.reader.specs.Answers.{Events, Counts, storeAt, modelHead, headOut, StoresCounted, ListingStored, RestStored, refusedCount, readingOf, readingFrom, partOf}
+use Rattle.case.specs.Stores.{storeAt}
+use Rattle.reader.specs.Answers.{Events, Counts, modelHead, headOut, StoresCounted, ListingStored, RestStored, refusedCount, readingOf, readingFrom, partOf}
 use Rattle.reader.specs.declared.Head as code
 use Rattle.reader.specs.declared.Reading.{Reading}
 use Rattle.reader.specs.declared.NamePart.{NamePart}

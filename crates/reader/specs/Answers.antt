@@ -2,14 +2,12 @@
 -- Assumes nothing.
 use Prim.Native.Nat.{ℕ, _-_, _*_, _≤_}
 use mathlib.Core.Path.{_≡_}
-use mathlib.Core.Bool.{Bool, _&&_}
 use mathlib.Core.List.{List, map}
-use lib.Dec.{eqb}
-use lib.ListN.{length, getD}
+use lib.ListN.{length}
 use Rattle.number.specs.Reader.{Out, stop, next, Reader, give, _>>=_, upTo, below}
 use Rattle.number.specs.declared.Refusal.{Refusal}
 use Rattle.model.specs.Limits.{mostThreads, mostAddresses, mostEvents, mostValue, mostName}
-use Rattle.model.specs.Case.{Case, Event, store}
+use Rattle.model.specs.Case.{Case, Event}
 use Rattle.model.specs.Record.{Pair, Head, Listing, Rest}
 use Rattle.model.specs.Answers.{Part}
 use Rattle.case.specs.Held.{held, emptyCase, pad, rowsOf}
@@ -97,10 +95,6 @@ pub record Events (kinds threads addresses values : List ℕ) (es : List Event) 
   pub thread : threads ≡ pad mostEvents (map (λ e. e .thread) es)
   pub address : addresses ≡ pad mostEvents (map (λ e. e .address) es)
   pub value : values ≡ pad mostEvents (map (λ e. e .value) es)
-
--- the arrays say that event e is a store to x
-unfoldable pub storeAt : (kinds targets : List ℕ) (x e : ℕ) → Bool
-storeAt kinds targets x e = eqb (getD kinds e 0) store && eqb (getD targets e 0) x
 
 pub record Counts (n m : ℕ) : Type 0 where
   pub threads-least : 1 ≤ n

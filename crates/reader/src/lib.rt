@@ -1,16 +1,15 @@
 // The reading of a record into a case. A record lies in a slice of bytes from a place on; what lies behind it is not read.
 ghost use mathlib.Core.Path.{_≡_};
 ghost use mathlib.Core.List.{[]};
-ghost use Prim.Native.Nat.{ℕ, _*_, _≤_, _<_};
+ghost use Prim.Native.Nat.{_*_, _≤_, _<_};
 ghost use lib.ListN.{length, replicate};
-ghost use Rattle.finite.specs.Tests.{count as countOf};
 ghost use Rattle.number.specs.Reader.{times, turns, upTo, numberOut, stop, next};
 ghost use Rattle.bits.specs.Bit.{bit};
 ghost use Rattle.model.specs.Limits.{mostThreads, mostAddresses, mostEvents, mostValue, mostName};
-ghost use Rattle.model.specs.Case.{bare as isBare};
 ghost use Rattle.model.specs.Record.{event, risingPair, order, unlisted, writeOrder, nextWriteOrder, bytes as nameBytes, head as headOf, listing as listingOf, rest as restOf, case as caseAt, read};
 ghost use Rattle.model.specs.Answers.{name as nameOf, namePart};
-ghost use Rattle.reader.specs.Answers.{access, eventOut, pairOut, headOut, modelHead, Stores, StoresCounted, Events, Padded, Tabled, storeAt, Counts, ListingStored, RestStored, refusedAt, refusedCount, readingOf, readingFrom, partOf};
+ghost use Rattle.case.specs.Stores.{storeAt};
+ghost use Rattle.reader.specs.Answers.{access, eventOut, pairOut, headOut, modelHead, Stores, StoresCounted, Events, Padded, Tabled, Counts, ListingStored, RestStored, refusedAt, refusedCount, readingOf, readingFrom, partOf};
 use case::Case;
 use number::NumberRead;
 use number::Refusal;
@@ -73,13 +72,6 @@ pub enum HeadRead {
     Refused(Refusal),
 }
 
-// Whether events of the kind have neither address nor value.
-fn bare(kind: u8) -> bool
-    ensures { λ r. ⌜ r ≡ isBare kind ⌝ }
-{
-    kind == Case::SYNC
-}
-
 // Reads the address and the value of an event.
 fn read_access(bytes: &[u8], at: usize, kind: u8, thread: u8, addresses: usize) -> EventRead
     requires { ⌜ (1 ≤ addresses) × (addresses ≤ mostAddresses) ⌝ }
@@ -115,7 +107,7 @@ fn read_event(bytes: &[u8], at: usize, threads: usize, addresses: usize) -> Even
     let NumberRead::Number(thread, after_thread) = thread_read else {
         return EventRead::Refused(number::refused(thread_read));
     };
-    if bare(kind as u8) {
+    if case::bare(kind as u8) {
         let event = Event {
             kind: kind as u8,
             thread: thread as u8,
@@ -263,46 +255,6 @@ fn read_initials(
     PlaceRead::Next(place)
 }
 
-fn wide(x: u8) -> usize
-    ensures { λ r. ⌜ r ≡ x ⌝ }
-{
-    x as usize
-}
-
-// Whether event e is a store to x.
-fn store_at(
-    kinds: &[u8; Case::MOST_EVENTS],
-    targets: &[u8; Case::MOST_EVENTS],
-    x: usize,
-    e: usize,
-) -> bool
-    requires { ⌜ e < mostEvents ⌝ }
-    ensures { λ r. ⌜ r ≡ storeAt (now (kinds .entry)) (now (targets .entry)) x e ⌝ }
-{
-    kinds[e] == Case::STORE && wide(targets[e]) == x
-}
-
-// How many of k events are stores to x.
-fn count_stores(
-    kinds: &[u8; Case::MOST_EVENTS],
-    targets: &[u8; Case::MOST_EVENTS],
-    k: usize,
-    x: usize,
-) -> usize
-    requires { ⌜ k ≤ mostEvents ⌝ }
-    ensures { λ r. ⌜ r ≡ countOf k (storeAt (now (kinds .entry)) (now (targets .entry)) x) ⌝ }
-{
-    let mut n: usize = 0;
-    let mut e: usize = 0;
-    while e < k {
-        if store_at(kinds, targets, x, e) {
-            n += 1;
-        }
-        e += 1;
-    }
-    n
-}
-
 // Reads the number of a store to x that is not listed yet.
 fn read_store(
     bytes: &[u8],
@@ -320,7 +272,7 @@ fn read_store(
     let NumberRead::Number(e, next) = read else {
         return read;
     };
-    if store_at(kinds, targets, x, e as usize) {
+    if case::store_at(kinds, targets, x, e as usize) {
         if bits::has(listed, e as usize) {
             return NumberRead::Refused(4, at);
         }
@@ -343,7 +295,7 @@ fn read_write_order(
     requires { ⌜ now writes ≡ replicate mostEvents 0 ⌝ }
     ensures { λ r. ⌜ Stores (Padded mostEvents (now (writes .exit))) (writeOrder k (storeAt (now (kinds .entry)) (now (targets .entry)) x) (now (bytes .entry)) at) r ⌝ }
 {
-    let count = count_stores(kinds, targets, k, x);
+    let count = case::count_stores(kinds, targets, k, x);
     let mut place = at;
     let mut listed: u64 = 0;
     let mut j: usize = 0;

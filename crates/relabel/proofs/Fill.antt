@@ -1,25 +1,17 @@
 -- A loop that stores f at each place of a list, from the front: the one law of all loops that fill an array.
 -- Assumes nothing.
-use Prim.Native.Nat.{ℕ, zero, suc, _+_, _-_, _≤_, _<_}
+use Prim.Native.Nat.{ℕ, suc, _+_, _-_, _≤_, _<_}
 use mathlib.Core.Path.{_≡_, refl, ap, _∙_}
-use mathlib.Core.List.{List, [], _∷_, _++_}
-use native.Mathlib.Nat.{add-zero, add-suc, suc-add, zero-add, le-antisymm}
+use mathlib.Core.List.{List, _++_}
+use native.Mathlib.Nat.{le-antisymm}
 use native.Mathlib.Numerals.{add-one}
 use native.Mathlib.Omega.{arith}
 use lib.ListN.{length, getD, set, drop, replicate, length-set, length-replicate}
 use lib.Seq.{drop-cons, set-at, append-snoc}
 use Rattle.finite.specs.Lists.{table}
-use Rattle.finite.proofs.Lists.{table-length}
+use Rattle.finite.proofs.Lists.{table-length, table-more}
 use Rattle.case.specs.Held.{pad}
-
--- a table with one more place
-pub table-snoc : {A : Type 0} (i j : ℕ) (f : ℕ → A) → table i (suc j) f ≡ table i j f ++ (f (i + j) ∷ [])
-unfolding table
-table-snoc i zero f = rw add-zero
-table-snoc i (suc j) f = ap (λ l. f i ∷ l) (table-snoc (suc i) j f ∙ simp (add-suc, suc-add))
-
-pub table-more : {A : Type 0} (i : ℕ) (f : ℕ → A) → table 0 (i + 1) f ≡ table 0 i f ++ (f i ∷ [])
-table-more i f = rw (add-one, table-snoc) (simp zero-add)
+use Rattle.case.proofs.Pad.{padded}
 
 -- of k places that f fills, i are filled
 pub record Filling (f : ℕ → ℕ) (k : ℕ) (out₀ out : List ℕ) (i : ℕ) : Type 0 where
@@ -50,19 +42,9 @@ module _ (f : ℕ → ℕ) (k : ℕ) (out₀ : List ℕ) where
     pub all-filled : k ≤ i → out ≡ table 0 k f ++ drop k out₀
     all-filled l = let e : i ≡ k = le-antisymm (t .some) l in rw (← e) (t .is)
 
-pub drop-zeros : (a b : ℕ) → drop {A = ℕ} a (replicate b 0) ≡ replicate (b - a) 0
-drop-zeros zero b = let z : b - 0 ≡ b = omega arith in rw z
-drop-zeros (suc a) zero = let z : 0 - suc a ≡ 0 = omega arith in rw z
-drop-zeros (suc a) (suc b) = let z : suc b - suc a ≡ b - a = omega arith in rw z (drop-zeros a b)
-
--- what is filled into zeros is padded
-pub padded : (n k : ℕ) (f : ℕ → ℕ) → table 0 k f ++ drop k (replicate n 0) ≡ pad n (table 0 k f)
-unfolding pad
-padded n k f = rw (drop-zeros, table-length)
-
 module _ (n k : ℕ) (f : ℕ → ℕ) where
   pub begun-zeros : k ≤ n → Filling f k (replicate n 0) (replicate n 0) 0
   begun-zeros h = begun f k (replicate n 0) (rw length-replicate h)
 
   pub all-padded : (out : List ℕ) (i : ℕ) → Filling f k (replicate n 0) out i → k ≤ i → out ≡ pad n (table 0 k f)
-  all-padded out i t l = all-filled f k (replicate n 0) out i t l ∙ padded n k f
+  all-padded out i t l = all-filled f k (replicate n 0) out i t l ∙ padded n k _ (table-length 0 k f)

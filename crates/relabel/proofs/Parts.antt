@@ -2,10 +2,7 @@
 -- Assumes nothing.
 use Prim.Native.Nat.{ℕ, _+_, _*_, _%_, _^_, _≤_, _<_}
 use mathlib.Core.Path.{_≡_, refl, ap, _∙_}
-use mathlib.Core.Bool.{Bool, _&&_}
 use mathlib.Core.List.{List, _++_}
-use native.Mathlib.Omega.{arith}
-use lib.Dec.{eqb}
 use lib.ListN.{length, getD, take, drop}
 use borrow.Rule.Slice.PartMut.{putMid}
 use Rattle.finite.specs.Tests.{count}
@@ -13,27 +10,26 @@ use Rattle.finite.specs.Lists.{table}
 use Rattle.finite.proofs.Lists.{table-length}
 use Rattle.permutation.specs.Permutation.{image, inverse}
 use Rattle.model.specs.Limits.{mostThreads, mostAddresses, mostEvents}
-use Rattle.model.specs.Case.{store}
-use Rattle.relabel.specs.Orders.{writeOrder, order}
-use Rattle.relabel.proofs.Count.{count-most}
+use Rattle.relabel.specs.Orders.{order}
+use Rattle.case.specs.Stores.{storeAt, writesAt}
+use Rattle.case.proofs.WriteOrders.{few-stores}
 use Rattle.relabel.proofs.Steps.{pulled-from}
 use Rattle.relabel.proofs.Rows.{Tabling, table-next}
 
-pub count-small : (j k : ℕ) (p : ℕ → Bool) → j ≡ count k p → k ≤ mostEvents → j ≤ mostEvents
-count-small j k p e h = omega (arith, count-most k p)
-
 module _ (r m k : ℕ) (kinds xs writes : List ℕ) where
-  pub write-small : k ≤ mostEvents → (y : ℕ) → length (writeOrder k kinds xs writes (image (inverse r) y)) ≤ mostEvents
-  write-small h y = rw table-length (count-small _ k _ refl h)
+  pub write-small : k ≤ mostEvents → (y : ℕ) → length (writesAt kinds xs writes k (image (inverse r) y)) ≤ mostEvents
+  unfolding writesAt
+  write-small h y = rw table-length (few-stores k _ _ h refl)
 
-  pub write-next : (back x y j w : ℕ) (out last : List ℕ) → Tabling (λ y. writeOrder k kinds xs writes (image (inverse r) y)) m mostAddresses out y
-      → y < m → w ≡ mostEvents → x ≡ image back y → back ≡ inverse r → j ≡ count k (λ e. eqb (getD kinds e 0) store && eqb (getD xs e 0) x)
+  pub write-next : (back x y j w : ℕ) (out last : List ℕ) → Tabling (λ y. writesAt kinds xs writes k (image (inverse r) y)) m mostAddresses out y
+      → y < m → w ≡ mostEvents → x ≡ image back y → back ≡ inverse r → j ≡ count k (storeAt kinds xs x)
       → last ≡ table 0 j (λ i. getD writes (x * mostEvents + i) 0) ++ drop j (take w (drop (y * mostEvents) out))
-      → Tabling (λ y. writeOrder k kinds xs writes (image (inverse r) y)) m mostAddresses (putMid (y * mostEvents) w out last) (y + 1)
+      → Tabling (λ y. writesAt kinds xs writes k (image (inverse r) y)) m mostAddresses (putMid (y * mostEvents) w out last) (y + 1)
+  unfolding writesAt
   write-next back x y j w out last t l ew ex eb ej h =
       table-next _ m mostAddresses out y t w l ew last (table 0 j (λ i. getD writes (x * mostEvents + i) 0)) j
       (ap (λ (n : ℕ). table 0 n (λ i. getD writes (x * mostEvents + i) 0)) ej
-      ∙ ap (writeOrder k kinds xs writes) (pulled-from r back x y ex eb))
+      ∙ ap (writesAt kinds xs writes k) (pulled-from r back x y ex eb))
       (table-length 0 j _) h
 
 module _ (q n k : ℕ) (rows : List ℕ) where

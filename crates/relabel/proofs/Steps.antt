@@ -2,12 +2,10 @@
 -- Assumes nothing.
 use Prim.Native.Nat.{ℕ, _-_, _%_, _^_, _<_}
 use mathlib.Core.Path.{_≡_, sym, ap, subst, _∙_}
-use mathlib.Core.Bool.{Bool, true, false, cond, _&&_}
+use mathlib.Core.Bool.{Bool, true, false, cond}
 use mathlib.Core.List.{List}
-use lib.Dec.{eqb}
 use lib.ListN.{getD}
 use lib.Bits.{bitAnd, and-mask}
-use borrow.Author.Tests.{eq-eqb, ne-eqb}
 use Rattle.permutation.specs.Permutation.{image, inverse, labels}
 use Rattle.permutation.proofs.Laws.{image-label}
 
@@ -17,12 +15,6 @@ cond-yes b t x y e h = rw (sym e ∙ h)
 
 pub cond-no : {A : Type 0} (b t : Bool) (x y z : A) → t ≡ b → t ≡ false → z ≡ y → z ≡ cond b x y
 cond-no b t x y z e h s = rw (sym e ∙ h) s
-
-pub both-yes : (m n : ℕ) (b : Bool) → m ≡ n → b ≡ (eqb m n && b)
-both-yes m n b e = rw (eq-eqb m n e)
-
-pub both-no : (m n : ℕ) (b : Bool) → (m ≡ n → ⊥) → false ≡ (eqb m n && b)
-both-no m n b d = rw (ne-eqb m n d)
 
 -- a row under the mask of the events below k
 pub masked : (row mask k v : ℕ) → mask ≡ 2 ^ k - 1 → v ≡ bitAnd row mask → v ≡ row % 2 ^ k

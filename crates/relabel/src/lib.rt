@@ -1,27 +1,19 @@
 // A case under a threads' and an addresses' permutation.
 ghost use mathlib.Core.Path.{_≡_};
-ghost use mathlib.Core.Bool.{true, cond, _&&_};
+ghost use mathlib.Core.Bool.{true, cond};
 ghost use mathlib.Core.List.{_++_};
 ghost use Prim.Native.Nat.{_+_, _*_, _%_, _^_, _≤_};
-ghost use lib.Dec.{eqb};
 ghost use lib.ListN.{length, getD, drop};
-ghost use Rattle.finite.specs.Tests.{count as countOf};
 ghost use Rattle.finite.specs.Lists.{table};
 ghost use Rattle.permutation.specs.Permutation.{image as imageOf, inverse as inverseOf};
-ghost use Rattle.model.specs.Limits.{mostThreads, mostAddresses, mostEvents, mostName};
-ghost use Rattle.model.specs.Case.{bare as bareOf, store};
+ghost use Rattle.model.specs.Limits.{mostThreads, mostAddresses, mostEvents};
+ghost use Rattle.model.specs.Case.{bare as bareOf};
 ghost use Rattle.model.specs.Renumber.{renumber, fitting};
 ghost use Rattle.case.specs.Held.{caseOf, held, pad, rowsOf};
+ghost use Rattle.case.specs.Stores.{writesAt};
 ghost use Rattle.case.specs.Sound.{Sound};
-ghost use Rattle.relabel.specs.Orders.{writeOrder, order};
+ghost use Rattle.relabel.specs.Orders.{order};
 use case::Case;
-
-// Whether events of the kind have neither address nor value.
-fn bare(kind: u8) -> bool
-    ensures { λ b. ⌜ b ≡ bareOf kind ⌝ }
-{
-    kind == Case::SYNC
-}
 
 // Copies so many elements of xs, from a place on, to the front of out.
 fn copy(xs: &[u8], from: usize, count: usize, out: &mut [u8])
@@ -88,7 +80,7 @@ fn threads(q: usize, k: usize, thread: &[u8; Case::MOST_EVENTS]) -> [u8; Case::M
 fn address(r: usize, kind: u8, x: u8) -> u8
     ensures { λ y. ⌜ y ≡ cond (bareOf kind) 0 (imageOf r x) ⌝ }
 {
-    if bare(kind) {
+    if case::bare(kind) {
         return 0;
     }
     permutation::image8(r, x)
@@ -117,7 +109,7 @@ fn addresses<'a>(
 fn value(kind: u8, v: u32) -> u32
     ensures { λ w. ⌜ w ≡ cond (bareOf kind) 0 v ⌝ }
 {
-    if bare(kind) {
+    if case::bare(kind) {
         return 0;
     }
     v
@@ -141,37 +133,6 @@ fn values<'a>(
     out
 }
 
-// Whether an event of the kind with address a is a store to x.
-fn stores_to(kind: u8, a: u8, x: usize) -> bool
-    ensures { λ b. ⌜ b ≡ (eqb kind store && eqb a x) ⌝ }
-{
-    if kind == Case::STORE {
-        return a as usize == x;
-    }
-    false
-}
-
-// How many of k events are stores to x.
-fn stores<'a>(
-    k: usize,
-    kinds: &'a [u8; Case::MOST_EVENTS],
-    xs: &'a [u8; Case::MOST_EVENTS],
-    x: usize,
-) -> usize
-    requires { ⌜ k ≤ mostEvents ⌝ }
-    ensures { λ j. ⌜ j ≡ countOf k (λ e. eqb (getD (now (kinds .entry)) e 0) store && eqb (getD (now (xs .entry)) e 0) x) ⌝ }
-{
-    let mut j: usize = 0;
-    let mut e: usize = 0;
-    while e < k {
-        if stores_to(kinds[e], xs[e], x) {
-            j += 1;
-        }
-        e += 1;
-    }
-    j
-}
-
 // The write orders, each at its address's new label.
 fn write_orders<'a>(
     r: usize,
@@ -184,14 +145,14 @@ fn write_orders<'a>(
     requires { ⌜ m ≤ mostAddresses ⌝ }
     requires { ⌜ k ≤ mostEvents ⌝ }
     requires { ⌜ length (now writes) ≡ mostAddresses * mostEvents ⌝ }
-    ensures { λ out. ⌜ out ≡ pad (mostAddresses * mostEvents) (rowsOf mostEvents (table 0 m (λ y. writeOrder k (now (kinds .entry)) (now (xs .entry)) (now (writes .entry)) (imageOf (inverseOf r) y)))) ⌝ }
+    ensures { λ out. ⌜ out ≡ pad (mostAddresses * mostEvents) (rowsOf mostEvents (table 0 m (λ y. writesAt (now (kinds .entry)) (now (xs .entry)) (now (writes .entry)) k (imageOf (inverseOf r) y)))) ⌝ }
 {
     let back = permutation::inverse(r);
     let mut out = [0u8; Case::MOST_ADDRESSES * Case::MOST_EVENTS];
     let mut y: usize = 0;
     while y < m {
         let x = permutation::image(back, y);
-        let count = stores(k, kinds, xs, x);
+        let count = case::count_stores(kinds, xs, k, x);
         let start = y * Case::MOST_EVENTS;
         let end = start + Case::MOST_EVENTS;
         copy(writes, x * Case::MOST_EVENTS, count, &mut out[start..end]);

@@ -11,7 +11,7 @@ use borrow.Author.Tests.{le-leb, lt-leb}
 use Rattle.finite.specs.Tests.{count, tick}
 use Rattle.finite.specs.Lists.{table, each}
 use Rattle.finite.proofs.Tests.{count-same}
-use Rattle.finite.proofs.Lists.{table-length, each-append}
+use Rattle.finite.proofs.Lists.{table-length, table-snoc, each-append}
 use Rattle.bits.specs.Bit.{bit}
 use Rattle.number.specs.Number.{encode, splice}
 use Rattle.model.specs.Limits.{mostEvents}
@@ -21,7 +21,6 @@ use Rattle.model.specs.Answers.{put}
 use Rattle.case.specs.declared.Case.{Case as Held}
 use Rattle.case.specs.Held.{eventsOf, caseOf}
 use Rattle.case.specs.Stores.{storeAt, writesAt}
-use Rattle.case.proofs.WriteOrders.{table-snoc}
 use Rattle.case.proofs.Masks.{bit-left}
 use Rattle.case.proofs.Means.{writes-of}
 use Rattle.writer.specs.Stages.{run, sum, frontBytes, initialAt, eventAt, listingBytes, entryAt, writesOf, bitBytes, rowAt, pairsAt, pairs, orderAt, byteAt, nameBytes, restBytes, Room, Wrote, Size}
@@ -43,13 +42,13 @@ pub each-run : {A : Type 0} (g : A → List ℕ) (f : ℕ → A) (n : ℕ) → e
 unfolding run table each
 each-run g f zero = refl
 each-run g f (suc n) =
-    ap (each g) (table-snoc f 0 n) ∙ each-append g (table 0 n f) (f (0 + n) ∷ [])
+    ap (each g) (table-snoc 0 n f) ∙ each-append g (table 0 n f) (f (0 + n) ∷ [])
     ∙ ap₂ (λ (x y : List ℕ). x ++ y) (each-run g f n) (append-nil (g (f (0 + n))) ∙ ap (λ (i : ℕ). g (f i)) (zero-add n))
 
 table-run : (f : ℕ → ℕ) (n : ℕ) → table 0 n f ≡ run (λ i. f i ∷ []) n
 unfolding run table
 table-run f zero = refl
-table-run f (suc n) = table-snoc f 0 n ∙ ap₂ (λ (x : List ℕ) (i : ℕ). x ++ (f i ∷ [])) (table-run f n) (zero-add n)
+table-run f (suc n) = table-snoc 0 n f ∙ ap₂ (λ (x : List ℕ) (i : ℕ). x ++ (f i ∷ [])) (table-run f n) (zero-add n)
 
 -- ---- the pairs of a row
 abbrev one : (a row b : ℕ) → List Pair
@@ -107,7 +106,7 @@ rows-snoc k a (x ∷ rs) r =
 module _ (k : ℕ) (f : ℕ → ℕ) where
   last-rows : (j : ℕ) → rowsPairs k 0 (table 0 (suc j) f) ≡ rowsPairs k 0 (table 0 j f) ++ rowPairs j (f j) 0 k
   last-rows j =
-      ap (rowsPairs k 0) (table-snoc f 0 j) ∙ rows-snoc k 0 (table 0 j f) (f (0 + j))
+      ap (rowsPairs k 0) (table-snoc 0 j f) ∙ rows-snoc k 0 (table 0 j f) (f (0 + j))
       ∙ ap₂ (λ (x y : ℕ). rowsPairs k 0 (table 0 j f) ++ rowPairs x (f y) 0 k) (zero-add (length (table 0 j f)) ∙ table-length 0 j f) (zero-add j)
 
   rows-bytes : (j : ℕ) → each pairBytes (rowsPairs k 0 (table 0 j f)) ≡ run (λ a. run (bitBytes (f a) a) k) j

@@ -14,13 +14,11 @@ use Rattle.number.proofs.Encoding.{lt-or-ge, encode-long, encode-low, encode-hi
 use Rattle.number.proofs.Splice.{splice-length, splice-append, is-sets}
 use mir.Syntax.{w64}
 use mir.Val.{Fits}
-use Rattle.finite.specs.Tests.{count}
 use Rattle.bits.specs.Bit.{bit}
-use Rattle.model.specs.Limits.{mostEvents}
 use Rattle.model.specs.Case.{bare}
 use Rattle.model.specs.Written.{eventBytes}
 use Rattle.case.specs.Held.{eventOf}
-use Rattle.case.proofs.WriteOrders.{count-le}
+use Rattle.case.proofs.Events.{event-by}
 use Rattle.writer.specs.Stages.{run, sum, frontBytes, bitBytes, rowAt, pairs, orderAt, byteAt, nameBytes, Room, Wrote, Size, mostNumber}
 
 -- ---- the size of a number
@@ -213,14 +211,10 @@ module _ (row a b : ℕ) (t : Bool) (e : t ≡ bit row b) where
 -- ---- an event
 module _ (k t a v : ℕ) where
   event-bytes : eventBytes (eventOf k t a v) ≡ (encode k ++ encode t) ++ cond (bare k) [] (encode a ++ encode v)
-  unfolding eventBytes eventOf
-  event-bytes = by (bare k) refl
-    where
-      by : (b : Bool) → bare k ≡ b
-          → eventBytes (cond b (record { kind = k; thread = t; address = 0; value = 0 }) (record { kind = k; thread = t; address = a; value = v }))
-          ≡ (encode k ++ encode t) ++ cond b [] (encode a ++ encode v)
-      by true h = rw h (sym (append-assoc (encode k) (encode t) []))
-      by false h = rw h (sym (append-assoc (encode k) (encode t) (encode a ++ encode v)))
+  unfolding eventBytes
+  event-bytes =
+      event-by (λ e. eventBytes e ≡ (encode k ++ encode t) ++ cond (bare k) [] (encode a ++ encode v)) k t a v
+      (λ h. rw h (sym (append-assoc (encode k) (encode t) []))) (λ h. rw h (sym (append-assoc (encode k) (encode t) (encode a ++ encode v))))
 
   -- the ways through an event, whose kind is bare where b says so: wk, wt and wa are its kind, thread and address as they are written
   module _ (b : Bool) (eb : b ≡ bare k) where
@@ -335,7 +329,3 @@ module _ (rows : List ℕ) (k p n : ℕ) (e : n ≡ pairs rows p k) where
       pub order-wrote : (u′ : List ℕ) (q′ : ℕ) → Wrote u q (run (rowAt rows p k) k) u′ q′ → Wrote s at (orderAt rows k p) u′ q′
       unfolding orderAt
       order-wrote u′ q′ w′ = rw (← e) (wrote-then s at (encode n) (run (rowAt rows p k) k) order-both u q w u′ q′ w′)
-
--- ---- an address's stores
-pub few-stores : (k n : ℕ) (f : ℕ → Bool) → k ≤ mostEvents → n ≡ count k f → n ≤ mostEvents
-few-stores k n f h e = omega (arith, count-le k f)

@@ -1,7 +1,6 @@
 -- `bits::with` meets its contract. Assumes nothing.
 use borrow.Author.Needs.{needs}
 use mathlib.Core.Path.{ap}
-use Prim.Native.Nat.{ℕ}
 use lib.Bits.{bitOr}
 use Rattle.bits.specs.Bit.{width}
 use Rattle.bits.proofs.Bits.{one-shl}

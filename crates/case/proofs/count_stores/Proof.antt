@@ -2,12 +2,13 @@
 use Prim.Native.Nat.{_-_}
 use mathlib.Core.Logic.{⊎-elim}
 use borrow.Author.Needs.{needs}
-use Rattle.case.proofs.WriteOrders.{Counting, counting-begun, counted-all, one-counted, not-counted}
+use Rattle.finite.proofs.Loops.{Counting, counting-begun, counted-all, one-counted, not-counted}
+use Rattle.case.specs.Stores.{storeAt}
 use Rattle.case.proofs.count_stores.Statement.{statement}
 use Rattle.case.proofs.count_stores.Tie as tie
 
 abbrev Inv-loop : tie.InvT-loop
-Inv-loop kinds targets k x n₀ e₀ n e = Counting kinds targets x k n e
+Inv-loop kinds targets k x n₀ e₀ n e = Counting (storeAt kinds targets x) k n e
 
 abbrev μ-loop : tie.MeasureT-loop
 μ-loop kinds targets k x n₀ e₀ n e = k - e
@@ -18,7 +19,7 @@ count-stores-spec =
     (tie.spec
     Inv-loop
     μ-loop
-    (λ c. counting-begun _ _ _ _)
+    (λ c. counting-begun _ _)
     (λ c κs. search needs)
     (λ c. search needs)
     (λ c. search needs)

@@ -1,12 +1,15 @@
 -- `case::events_good` meets its contract. Assumes nothing.
 use Prim.Native.Nat.{_-_}
 use borrow.Author.Needs.{needs}
-use Rattle.case.proofs.Tested.{Good, none-good, bad-event, good-event, good-all}
+use lib.ListN.{getD}
+use Rattle.finite.proofs.Loops.{Passed, begun, fails, passes, ends}
+use Rattle.model.specs.Fault.{eventGood}
+use Rattle.case.specs.Held.{eventOf}
 use Rattle.case.proofs.events_good.Statement.{statement}
 use Rattle.case.proofs.events_good.Tie as tie
 
 abbrev Inv-loop : tie.InvT-loop
-Inv-loop kinds owners targets values threads addresses k e₀ e = Good threads addresses kinds owners targets values k e
+Inv-loop kinds owners targets values threads addresses k e₀ e = Passed k (λ i. eventGood threads addresses (eventOf (getD kinds i 0) (getD owners i 0) (getD targets i 0) (getD values i 0))) e
 
 abbrev μ-loop : tie.MeasureT-loop
 μ-loop kinds owners targets values threads addresses k e₀ e = k - e
@@ -17,15 +20,15 @@ events-good-spec =
     (tie.spec
     Inv-loop
     μ-loop
-    (λ c. none-good _ _ _ _ _ _ _)
+    (λ c. begun)
     (λ c. search needs)
     (λ c. search needs)
     (λ c. search needs)
     (λ c. search needs)
     (λ c. search needs)
     (λ c κs. search needs)
-    (λ c. bad-event _ _ _ _ _ _ _ _ (c .before .before .before .before .before .before .before .loop .inv) _ (c .before .event-good .ensures) (c .before .before .before .before .before .before .loop-test .taken) (c .if1 .taken))
+    (λ c. search fails)
     (λ c. search needs)
     (λ c. search needs)
-    (λ c. search good-event)
-    (λ c. good-all _ _ _ _ _ _ _ _ (c .before .loop .inv) (c .loop-test .left)))
+    (λ c. search passes)
+    (λ c. search ends))

@@ -1,12 +1,18 @@
 -- `case::initials_good` meets its contract. Assumes nothing.
 use Prim.Native.Nat.{_-_}
 use borrow.Author.Needs.{needs}
-use Rattle.case.proofs.Tested.{Low, none-low, high-value, low-value, low-all}
+use mathlib.Core.Path.{sym}
+use borrow.Author.Tests.{le-leb, lt-leb}
+use Rattle.finite.proofs.Tests.{all-not}
+use lib.Dec.{leb}
+use lib.ListN.{getD}
+use Rattle.finite.proofs.Loops.{Passed, begun, one-more, ends}
+use Rattle.model.specs.Limits.{mostValue}
 use Rattle.case.proofs.initials_good.Statement.{statement}
 use Rattle.case.proofs.initials_good.Tie as tie
 
 abbrev Inv-loop : tie.InvT-loop
-Inv-loop initial addresses x₀ x = Low initial addresses x
+Inv-loop initial addresses x₀ x = Passed addresses (λ y. leb (getD initial y 0) mostValue) x
 
 abbrev μ-loop : tie.MeasureT-loop
 μ-loop initial addresses x₀ x = addresses - x
@@ -17,11 +23,11 @@ initials-good-spec =
     (tie.spec
     Inv-loop
     μ-loop
-    (λ c. none-low _ _)
+    (λ c. begun)
     (λ c. search needs)
     (λ c. search needs)
-    (λ c. high-value _ _ _ (c .before .before .before .loop .inv) (c .before .before .loop-test .taken) (c .if1 .taken))
+    (λ c. sym (all-not _ _ _ (c .before .before .loop-test .taken) (lt-leb _ _ (c .if1 .taken))))
     (λ c. search needs)
     (λ c. search needs)
-    (λ c. search low-value)
-    (λ c. low-all _ _ _ (c .before .loop .inv) (c .loop-test .left)))
+    (λ c. search (one-more, le-leb))
+    (λ c. search ends))

@@ -1,5 +1,6 @@
 -- `case::write_fault` meets its contract. Assumes nothing.
 use Prim.Native.Nat.{_-_}
+use native.Mathlib.Nat.{le-trans}
 use borrow.Author.Needs.{needs}
 use Rattle.case.specs.Stores.{storeAt}
 use Rattle.case.proofs.WriteOrders.{Listing, listing-begun, listing-done, no-event, not-unlisted, one-listed, entry, of-order, few-stores}
@@ -20,7 +21,7 @@ write-fault-spec =
     μ-loop
     (λ c κs. search needs)
     (λ c. listing-begun _ _ _ _)
-    (λ c κs. (c .before .before .before .pre .1, few-stores _ _ _ _ (c .before .before .before .pre .0) (c .before .before .count-stores .ensures) (c .loop-test .taken)))
+    (λ c κs. (c .before .before .before .pre .1, le-trans (c .loop-test .taken) (few-stores _ _ _ (c .before .before .before .pre .0) (c .before .before .count-stores .ensures))))
     (λ c.
     let b = c .before .before in
     of-order _ _ _ _ _ _ _ (b .before .before .count-stores .ensures)

@@ -1,6 +1,7 @@
 use Prim.Native.Nat.{_-_}
 use borrow.Author.Needs.{needs}
-use Rattle.reader.proofs.Tables.{Orders, orders-begun, orders-stop, orders-next, table-all, table-room, step-size}
+use Rattle.reader.proofs.Tables.{Orders, orders-begun, orders-stop, orders-next, table-all, table-room}
+use Rattle.case.proofs.Pad.{step-size}
 use Rattle.reader.proofs.read_orders.Statement.{statement}
 use Rattle.reader.proofs.read_orders.Tie as tie
 

@@ -1,6 +1,7 @@
 use Prim.Native.Nat.{_-_}
 use borrow.Author.Needs.{needs}
-use Rattle.reader.proofs.Tables.{Writes, writes-begun, writes-stop, writes-next, table-all, table-room, step-size}
+use Rattle.reader.proofs.Tables.{Writes, writes-begun, writes-stop, writes-next, table-all, table-room}
+use Rattle.case.proofs.Pad.{step-size}
 use Rattle.reader.proofs.read_writes.Statement.{statement}
 use Rattle.reader.proofs.read_writes.Tie as tie
 

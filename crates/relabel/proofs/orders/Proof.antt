@@ -5,7 +5,8 @@ use Rattle.model.specs.Limits.{mostThreads}
 use Rattle.permutation.specs.Permutation.{image, inverse}
 use Rattle.relabel.specs.Orders.{order}
 use Rattle.relabel.proofs.Steps.{pulled-below}
-use Rattle.relabel.proofs.Rows.{Tabling, table-begun, table-all, part-room, step-size}
+use Rattle.relabel.proofs.Rows.{Tabling, table-begun, table-all, part-room}
+use Rattle.case.proofs.Pad.{step-size}
 use Rattle.relabel.proofs.Parts.{order-small, order-next}
 use Rattle.relabel.proofs.orders.Statement.{statement}
 use Rattle.relabel.proofs.orders.Tie as tie

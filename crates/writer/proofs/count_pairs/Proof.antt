@@ -6,7 +6,7 @@ use native.Mathlib.Omega.{arith}
 use Rattle.finite.specs.Tests.{count}
 use Rattle.bits.specs.Bit.{bit}
 use Rattle.model.specs.Limits.{mostEvents}
-use Rattle.case.proofs.WriteOrders.{count-le}
+use Rattle.finite.proofs.Tests.{count-le}
 use borrow.Author.Needs.{needs}
 use Rattle.writer.proofs.Runs.{Summed, none-summed, one-summed, all-summed, sum-fits}
 use Rattle.writer.specs.Stages.{pairs, pairsAt}

@@ -1,6 +1,6 @@
 -- `writer::size_stores` meets its contract. Assumes nothing.
 use borrow.Author.Needs.{needs}
-use Rattle.writer.proofs.Runs.{few-stores}
+use Rattle.case.proofs.WriteOrders.{few-stores}
 use Rattle.writer.specs.Stages.{writesOf}
 use Rattle.writer.proofs.size_stores.Statement.{statement}
 use Rattle.writer.proofs.size_stores.Tie as tie
