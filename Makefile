@@ -1,4 +1,4 @@
-.PHONY: test demo bench archive
+.PHONY: test demo judge bench archive
 RECORDS = $(sort $(wildcard examples/*.litmus))
 
 # all proofs, must-fail edits, programs and tests; the last line is 'N passed, 0 failed'
@@ -6,8 +6,12 @@ test:
 	.ci/run
 
 # judges the cases of examples/
-demo:
-	rt check judge && target/bin/judge $(RECORDS)
+demo: judge
+	target/bin/judge $(RECORDS)
+
+# the program target/bin/judge
+judge:
+	rt check judge
 
 # times beside an ordinary Rust implementation
 bench: archive

@@ -1,0 +1,28 @@
+-- `judge::input::judge_input` is safe and ends: the measure is the number of turns that are left. Assumes nothing.
+use borrow.Author.Needs.{needs}
+use lib.ListN.{length}
+use Rattle.judge.specs.Within.{Within}
+use Rattle.judge.proofs.input.judge_input.Statement.{statement}
+use Rattle.judge.proofs.input.judge_input.Tie as tie
+
+abbrev Inv-loop : tie.InvT-loop
+Inv-loop fd name buffer₀ p₀ turns₀ buffer p turns = Within p (length buffer)
+
+abbrev μ-loop : tie.MeasureT-loop
+μ-loop fd name buffer₀ p₀ turns₀ buffer p turns = turns
+
+pub judge-input-spec : {M : Type 1} → statement M
+judge-input-spec =
+    tie.close
+    (tie.spec
+    Inv-loop
+    μ-loop
+    (λ c κs. search needs)
+    (λ c. search needs)
+    (λ c. search needs)
+    (λ c κs. search needs)
+    (λ c. search needs)
+    (λ c. search needs)
+    (λ c. search needs)
+    (λ c. search needs)
+    (λ c. search needs))

@@ -1,0 +1,76 @@
+// Words on standard output.
+use libc::STDOUT_FILENO;
+
+pub fn say(text: &[u8]) {
+    io::write_all(STDOUT_FILENO, text);
+}
+
+pub fn say_number(n: u64) {
+    io::print_decimal(STDOUT_FILENO, n);
+}
+
+// One byte of a name: as it stands if it prints, else as \xHH; a backslash as two.
+fn say_byte(b: u8) {
+    if b == b'\\' {
+        say(b"\\\\");
+        return;
+    }
+    if 32 <= b {
+        if b <= 126 {
+            let one = [b; 1];
+            say(&one);
+            return;
+        }
+    }
+    say(b"\\x");
+    io::print_hex(STDOUT_FILENO, b as u64, 2);
+}
+
+// A name, so that none of its bytes reaches a terminal unescaped.
+pub fn say_escaped(name: &[u8]) {
+    let mut i: usize = 0;
+    while i < name.len() {
+        say_byte(name[i]);
+        i += 1;
+    }
+}
+
+// What a refusal of a record's bytes means.
+pub fn say_refusal(number: u32) {
+    match number {
+        1 => say(b"the bytes end inside a number or the name"),
+        2 => say(b"a number has too many groups, or is not in its shortest form"),
+        3 => say(b"a number is outside its range"),
+        4 => say(
+            b"a write order entry is not a store to that address or was listed before, or a pair is not above the one before",
+        ),
+        _ => say(b"no such refusal of bytes"),
+    }
+}
+
+// What a broken rule means.
+pub fn say_rule(number: u32) {
+    match number {
+        11 => say(b"(strict partial order): a thread's order is not irreflexive and transitive"),
+        12 => say(b"(own events): a thread's order leaves two of its own events unordered"),
+        13 => say(
+            b"(program order): a thread's order breaks its program order at a sync or on one address",
+        ),
+        14 => say(
+            b"(Coherence): a thread's order of two stores to one address is not the write order's",
+        ),
+        15 => say(
+            b"(V1): a load does not hold the initial value, and no store to its address comes before it",
+        ),
+        16 => say(
+            b"(V2): a load holds another value than some store to its address, does not come before it, and no other store lies between",
+        ),
+        17 => say(
+            b"(F1): an event before a sync and an event after it on its thread are not in that order for every thread",
+        ),
+        18 => say(
+            b"(F2): an event before a sync and an event after a load of a store behind the sync are not in that order for every thread",
+        ),
+        _ => say(b"(no such rule)"),
+    }
+}

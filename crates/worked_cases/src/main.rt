@@ -1,0 +1,130 @@
+// Runs paper 01's worked cases ("Cases on the bench") through the compiled library and prints a line for each: the answers under
+// PPCw and PPCs, and whether the calls on the case that was read agree with those on the record.
+mod cases;
+mod records;
+mod text;
+
+use cases::case_agrees;
+use text::say;
+use text::say_answer;
+use text::say_bytes;
+use text::say_number;
+
+const PPCW: u64 = 0;
+
+const PPCS: u64 = 1;
+
+// Whether the calls on the case read from the record agree with those on its bytes.
+fn say_agreement(record: &[u8]) {
+    let answer = litmus::read(record).answer;
+    if answer.number != 0 {
+        say(b"; no case");
+        return;
+    }
+    if case_agrees(record) {
+        say(b"; calls on the case: same");
+        return;
+    }
+    say(b"; calls on the case: DIFFERENT");
+}
+
+// A record judged under both models, and its case beside it.
+fn judged(name: &[u8], record: &[u8]) {
+    say(name);
+    say(b": PPCw ");
+    say_answer(litmus::judge(record, PPCW));
+    say(b"; PPCs ");
+    say_answer(litmus::judge(record, PPCS));
+    say_agreement(record);
+    say(b"\n");
+}
+
+fn orders_and_values() {
+    judged(b"Small record", &records::SMALL);
+    judged(b"Small record, load 0", &records::LOAD_0);
+    judged(b"Small record, load 2", &records::LOAD_2);
+    judged(b"Small record, no pairs", &records::NO_PAIRS);
+    judged(b"Small record, pairs 0,1 and 1,0", &records::BOTH_PAIRS);
+    judged(b"Small record, pair 1,0 alone", &records::REVERSED_PAIR);
+    judged(
+        b"Stores in one order, write order reversed",
+        &records::REVERSED_WRITES,
+    );
+}
+
+fn known_tests() {
+    judged(b"Dekker", &records::DEKKER);
+    judged(b"Message", &records::MESSAGE);
+    judged(
+        b"Message, pair 0,4 in thread 0's order",
+        &records::MESSAGE_ORDERED,
+    );
+    judged(b"CC", &records::CC);
+    judged(
+        b"Message, thread 1's order from 3<4 only",
+        &records::MESSAGE_UNSEEN,
+    );
+    judged(b"IRIW", &records::IRIW);
+}
+
+fn ranges() {
+    judged(b"Empty input", b"");
+    judged(b"Edition 2", &records::EDITION_2);
+    judged(b"n = 5", &records::THREADS_5);
+    judged(b"k = 24", &records::EVENTS_24);
+    judged(b"k = 25", &records::EVENTS_25);
+    judged(b"Name length 33", &records::NAME_33);
+}
+
+fn number_forms() {
+    judged(b"Initial value 80 00", &records::LONG_FORM);
+    judged(b"Initial value 80 80 80", &records::THREE_FOLLOWED_ON);
+    judged(
+        b"Initial value 80 80 80 at the end",
+        &records::THREE_FOLLOWED,
+    );
+    judged(b"Initial value 80 80 at the end", &records::TWO_FOLLOWED);
+    judged(b"Initial value 80 80 04", &records::VALUE_65536);
+}
+
+// The small record renumbered into a buffer of 23 bytes from place 2.
+fn renumbered(name: &[u8], threads: u64, addresses: u64) {
+    let mut space = [0xEEu8; 23];
+    let out: &mut [u8] = &mut space;
+    say(name);
+    say(b": ");
+    say_answer(litmus::renumber(&records::SMALL, threads, addresses, out, 2));
+    say(b"; buffer");
+    say_bytes(out);
+    say(b"\n");
+}
+
+fn composed(first: u64, then: u64) {
+    say(b"First ");
+    say_number(first);
+    say(b" then ");
+    say_number(then);
+    say(b" is ");
+    say_number(litmus::composite(first, then));
+    say(b"\n");
+}
+
+fn permutations() {
+    composed(1, 6);
+    composed(9, 9);
+    composed(1, 2);
+    composed(2, 1);
+    say(b"The inverse of 3 is ");
+    say_number(litmus::inverse(3));
+    say(b"\n");
+}
+
+fn main() {
+    orders_and_values();
+    known_tests();
+    ranges();
+    number_forms();
+    renumbered(b"Small record, addresses by 6", 0, 6);
+    renumbered(b"Small record, addresses by 1", 0, 1);
+    permutations();
+}
