@@ -42,9 +42,12 @@ enum {
  *            14  a thread's order of two stores to one address is not the write order's
  *            15  a load does not hold the initial value, and no store to its address comes
  *                before it
- *            16  a load's value is not the one of the latest store before it
- *            17  what a sync orders is not in that order for every thread
- *            18  what a sync orders for the readers of a later store is not so for every thread
+ *            16  a load holds another value than some store to its address, does not come
+ *                before it, and no other store lies between
+ *            17  an event before a sync and an event after it on its thread are not in that
+ *                order for every thread
+ *            18  an event before a sync and an event after a load of a store behind the sync
+ *                are not in that order for every thread
  *          Where several rules are broken, the lowest is given.
  * place    under 1 to 4, the byte where the faulty number starts (of a pair: its first number;
  *          of a name that is cut short: its first byte); otherwise 0

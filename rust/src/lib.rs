@@ -19,7 +19,7 @@
 //! let verdict = judge(&record, Model::PpcS).expect("it still can be read");
 //! assert_eq!(
 //!     verdict.to_string(),
-//!     "not possible: rule 16: a load's value is not the one of the latest store before it"
+//!     "not possible: rule 16: a load holds another value than some store to its address, does not come before it, and no other store lies between"
 //! );
 //!
 //! // Cut short, it can't be read.
@@ -93,9 +93,9 @@ pub fn meaning(number: u32) -> &'static str {
         13 => "a thread's order breaks its program order at a sync or on one address",
         14 => "a thread's order of two stores to one address is not the write order's",
         15 => "a load does not hold the initial value, and no store to its address comes before it",
-        16 => "a load's value is not the one of the latest store before it",
-        17 => "what a sync orders is not in that order for every thread",
-        18 => "what a sync orders for the readers of a later store is not so for every thread",
+        16 => "a load holds another value than some store to its address, does not come before it, and no other store lies between",
+        17 => "an event before a sync and an event after it on its thread are not in that order for every thread",
+        18 => "an event before a sync and an event after a load of a store behind the sync are not in that order for every thread",
         _ => "no such number",
     }
 }

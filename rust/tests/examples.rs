@@ -53,6 +53,6 @@ fn rust_example() {
         output(cargo.arg(folder().join("dekker.litmus"))),
         "Dekker\n\
          PPCw: possible: finals 1 1 0 0\n\
-         PPCs: not possible: rule 16: a load's value is not the one of the latest store before it\n"
+         PPCs: not possible: rule 16: a load holds another value than some store to its address, does not come before it, and no other store lies between\n"
     );
 }
