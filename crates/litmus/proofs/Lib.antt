@@ -2,3 +2,4 @@ pub mod Models
 pub mod Bytes
 pub mod Found
 pub mod Given
+pub mod RoundTrip
