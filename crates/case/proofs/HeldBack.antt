@@ -1,12 +1,12 @@
 -- The struct that holds a case means that case.
 -- Assumes nothing.
 use Prim.Native.Nat.{ℕ, zero, suc, _+_, _-_, _*_, _%_, _^_, _≤_, _<_}
-use native.Mathlib.Nat.{add-zero, zero-add, zero-mul, not-suc-le-zero, le-of-suc-le-suc, mod-eq-of-lt}
+use native.Mathlib.Nat.{zero-add, zero-mul, not-suc-le-zero, le-of-suc-le-suc, mod-eq-of-lt}
 use native.Mathlib.Omega.{arith}
 use mathlib.Core.Path.{_≡_, refl, ap, sym, _∙_}
-use mathlib.Core.Bool.{Bool, true}
+use mathlib.Core.Bool.{true}
 use mathlib.Core.List.{List, [], _∷_, _++_, map, append-assoc}
-use lib.ListN.{length, getD, length-append, length-map, List·getD-append}
+use lib.ListN.{length, getD, length-map, List·getD-append}
 use lib.Seq.{getD-append-add}
 use Rattle.finite.specs.Tests.{count}
 use Rattle.finite.specs.Lists.{table}
@@ -15,8 +15,8 @@ use Rattle.finite.proofs.Lists.{table-same, as-table}
 use Rattle.model.specs.Limits.{mostAddresses, mostEvents, mostName}
 use Rattle.model.specs.Case.{Case, Event, noEvent, bare}
 use Rattle.model.specs.Record.{storeTo}
-use Rattle.laws.proofs.Fits.{EventFits, WritesFit, Fits}
-use Rattle.laws.proofs.AllFrom.{all-at}
+use Rattle.laws.proofs.Fits.{EventFits, Fits}
+use Rattle.laws.proofs.AllFrom.{all-at, from-at, writes-from}
 use Rattle.case.specs.Held.{pad, rowsOf, held, eventOf, eventsOf, caseOf}
 use Rattle.case.proofs.Events.{event-by}
 use Rattle.case.proofs.Pad.{length-pad, pad-get}
@@ -125,21 +125,13 @@ module _ (c : Case) (H : Holds c) where
   }
 
 -- ---- a case that keeps the limits
-written-at : (k : ℕ) (mine : ℕ → ℕ → Bool) (before ws : List (List ℕ)) → WritesFit k mine before ws
-    → (x : ℕ) → x < length ws → length (getD ws x []) ≡ count k (mine (length before + x))
-written-at k mine before [] h x b = absurd (not-suc-le-zero b)
-written-at k mine before (w ∷ ws) h zero b = rw (add-zero (length before)) (h .0)
-written-at k mine before (w ∷ ws) h (suc x) b =
-    let e : length (before ++ (w ∷ [])) + x ≡ length before + suc x = rw (length-append before (w ∷ [])) (omega arith) in
-    written-at k mine (before ++ (w ∷ [])) ws (h .2) x (le-of-suc-le-suc b) ∙ ap (λ (y : ℕ). count k (mine y)) e
-
 pub holds : (c : Case) → Fits c → Holds c
 holds c F = record {
   initials = sym (F .m);
   events = sym (F .k);
   bares = λ e h t. let f = all-at (EventFits (c .n) (c .m)) (c .events) (F .events) e noEvent (omega (arith, F .k)) in (f .no-address t, f .no-value t);
   writes = sym (F .m′);
-  written = λ x h. written-at (c .k) (storeTo (c .events)) [] (c .writes) (F .writes) x (omega (arith, F .m′)) ∙ ap (λ (y : ℕ). count (c .k) (storeTo (c .events) y)) (zero-add x);
+  written = λ x h. rw (zero-add x) at (from-at _ 0 (c .writes) (writes-from (c .k) (storeTo (c .events)) [] (c .writes) (F .writes)) x [] (omega (arith, F .m′)) .0);
   few = F .k-most;
   orders = sym (F .n);
   rows = λ p h. all-at _ (c .orders) (F .orders) p [] (omega (arith, F .n)) .0;

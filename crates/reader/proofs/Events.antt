@@ -24,7 +24,7 @@ use Rattle.reader.specs.declared.EventRead.{EventRead}
 use Rattle.reader.specs.declared.EventRead.the-variants as the
 use Rattle.reader.specs.declared.PlaceRead.the-variants as place
 use Rattle.case.proofs.Pad.{pad-next}
-use Rattle.reader.proofs.Filling.{Filling, filling-begun, filling-all, filling-stop, filling-next}
+use Rattle.reader.proofs.Filling.{Filling, filling-begun, filling-stop, filling-next}
 
 -- a number that was read fits a byte where its limit does
 pub fits-byte : (s : List ℕ) (at limit v p : ℕ) (r : NumberRead) → r ≡ Number v p → r ≡ readNumber s at limit → limit < 2 ^ 8 → Fits w8 v
@@ -85,9 +85,6 @@ module _ (s : List ℕ) (at n m k : ℕ) (ks ts as′ vs : List ℕ) where
   begun h = filling-begun (Events ks ts as′ vs) (λ _. event n m) s k at h
 
   module _ (p₀ e : ℕ) (h : EventsFilled s at n m k ks ts as′ vs p₀ e) where
-    pub all-read : k ≤ e → Stores (Events ks ts as′ vs) (times k (event n m) s at) (place.Next p₀)
-    all-read l = filling-all _ _ _ _ _ _ _ h l
-
     pub refusal : e < k → (r : EventRead) (f : Refusal) → eventOut r ≡ event n m s p₀ → r ≡ the.Refused f
         → Stores (Events ks ts as′ vs) (times k (event n m) s at) (place.Refused f)
     refusal l r f g u = filling-stop _ _ _ _ _ _ _ h l _ (f .number) (f .place) (λ _ _ _. sym g ∙ ap eventOut u)

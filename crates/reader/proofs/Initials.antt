@@ -15,7 +15,7 @@ use Rattle.case.specs.Held.{pad}
 use Rattle.reader.specs.Answers.{Stores, Padded}
 use Rattle.reader.specs.declared.PlaceRead.the-variants as place
 use Rattle.case.proofs.Pad.{pad-set}
-use Rattle.reader.proofs.Filling.{Filling, filling-begun, filling-all, filling-stop, filling-next}
+use Rattle.reader.proofs.Filling.{Filling, filling-begun, filling-stop, filling-next}
 
 abbrev pub Initials : (s : List ℕ) (at m : ℕ) (array : List ℕ) (place x : ℕ) → Type 0
 Initials s at m array place x = Filling (Padded mostAddresses array) (λ _. upTo mostValue) (times m (upTo mostValue) s at) s m place x
@@ -26,9 +26,6 @@ module _ (s : List ℕ) (at m : ℕ) (array : List ℕ) where
   begun z = filling-begun (Padded mostAddresses array) (λ _. upTo mostValue) s m at (record { stored = z; long = omega arith })
 
   module _ (p₀ x : ℕ) (h : Initials s at m array p₀ x) where
-    pub all-read : m ≤ x → Stores (Padded mostAddresses array) (times m (upTo mostValue) s at) (place.Next p₀)
-    all-read l = filling-all _ _ _ _ _ _ _ h l
-
     pub refusal : x < m → (r : NumberRead) (f : Refusal) (y p : ℕ) → r ≡ readNumber s p₀ mostValue → r ≡ Refused y p → f ≡ refusalOf r
         → Stores (Padded mostAddresses array) (times m (upTo mostValue) s at) (place.Refused f)
     unfolding refusalOf upTo

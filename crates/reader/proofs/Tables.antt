@@ -83,26 +83,7 @@ pub orders-begun : (s : List ℕ) (at n k : ℕ) (array₀ : List ℕ) → array
 unfolding times
 orders-begun s at n k array₀ z = table-begun mostThreads (λ _. order k) s at n array₀ z
 
-module _ (s : List ℕ) (at n k : ℕ) (array₀ array : List ℕ) (p₀ p : ℕ) (h : Orders s at n k array₀ array p₀ p) where
-  module _ (l : p < n) (last : List ℕ) (res : PlaceRead) (g : Stores (Padded mostEvents last) (order k s p₀) res) where
-    pub orders-stop : (S : List (List ℕ) → Type 0) (f : Refusal) → res ≡ place.Refused f → Stores S (times n (order k) s at) res
-    orders-stop S f u = table-stop _ _ _ _ _ _ _ _ _ h l last res g S f u
-
-    pub orders-next : n ≤ mostThreads → (q w : ℕ) → res ≡ place.Next q → w ≡ mostEvents → Orders s at n k array₀ (putMid (p * mostEvents) w array last) q (p + 1)
-    orders-next b q w u e = table-next _ _ _ _ _ _ _ _ _ h l last res g b q w u e
-
 -- the addresses' write orders
 abbrev pub Writes : (s : List ℕ) (at m k : ℕ) (ks ts array₀ array : List ℕ) (place x : ℕ) → Type 0
 Writes s at m k ks ts array₀ array place x =
     Table mostAddresses (λ x. writeOrder k (storeAt ks ts x)) (turns m (nextWriteOrder k (storeAt ks ts)) [] s at) s m array₀ array place x
-
-pub writes-begun : (s : List ℕ) (at m k : ℕ) (ks ts array₀ : List ℕ) → array₀ ≡ replicate (mostAddresses * mostEvents) 0 → Writes s at m k ks ts array₀ array₀ at 0
-writes-begun s at m k ks ts array₀ z = table-begun mostAddresses (λ x. writeOrder k (storeAt ks ts x)) s at m array₀ z
-
-module _ (s : List ℕ) (at m k : ℕ) (ks ts array₀ array : List ℕ) (p₀ x : ℕ) (h : Writes s at m k ks ts array₀ array p₀ x) where
-  module _ (l : x < m) (last : List ℕ) (res : PlaceRead) (g : Stores (Padded mostEvents last) (writeOrder k (storeAt ks ts x) s p₀) res) where
-    pub writes-stop : (S : List (List ℕ) → Type 0) (f : Refusal) → res ≡ place.Refused f → Stores S (turns m (nextWriteOrder k (storeAt ks ts)) [] s at) res
-    writes-stop S f u = table-stop _ _ _ _ _ _ _ _ _ h l last res g S f u
-
-    pub writes-next : m ≤ mostAddresses → (q w : ℕ) → res ≡ place.Next q → w ≡ mostEvents → Writes s at m k ks ts array₀ (putMid (x * mostEvents) w array last) q (x + 1)
-    writes-next b q w u e = table-next _ _ _ _ _ _ _ _ _ h l last res g b q w u e

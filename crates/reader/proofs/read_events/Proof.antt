@@ -1,6 +1,7 @@
 use Prim.Native.Nat.{_-_}
 use borrow.Author.Needs.{needs}
-use Rattle.reader.proofs.Events.{EventsFilled, begun, refusal, one-more, all-read}
+use Rattle.reader.proofs.Filling.{filling-all}
+use Rattle.reader.proofs.Events.{EventsFilled, begun, refusal, one-more}
 use Rattle.reader.proofs.read_events.Statement.{statement}
 use Rattle.reader.proofs.read_events.Tie as tie
 
@@ -31,4 +32,4 @@ read-events-spec =
     (λ c. search needs)
     (λ c. search needs)
     (λ c. search one-more)
-    (λ c. search all-read))
+    (λ c. search filling-all))

@@ -1,6 +1,7 @@
 use Prim.Native.Nat.{_-_}
 use borrow.Author.Needs.{needs}
-use Rattle.reader.proofs.Initials.{Initials, begun, refusal, one-more, all-read}
+use Rattle.reader.proofs.Filling.{filling-all}
+use Rattle.reader.proofs.Initials.{Initials, begun, refusal, one-more}
 use Rattle.reader.proofs.read_initials.Statement.{statement}
 use Rattle.reader.proofs.read_initials.Tie as tie
 
@@ -27,4 +28,4 @@ read-initials-spec =
     (λ c. search needs)
     (λ c. search needs)
     (λ c. search one-more)
-    (λ c. search all-read))
+    (λ c. search filling-all))

@@ -1,6 +1,6 @@
 use Prim.Native.Nat.{_-_}
 use borrow.Author.Needs.{needs}
-use Rattle.reader.proofs.Tables.{Orders, orders-begun, orders-stop, orders-next, table-all, table-room}
+use Rattle.reader.proofs.Tables.{Orders, orders-begun, table-stop, table-next, table-all, table-room}
 use Rattle.case.proofs.Pad.{step-size}
 use Rattle.reader.proofs.read_orders.Statement.{statement}
 use Rattle.reader.proofs.read_orders.Tie as tie
@@ -28,9 +28,9 @@ read-orders-spec =
     (λ c. search needs)
     (λ c. search needs)
     (λ c. search needs)
-    (λ c. search orders-stop)
+    (λ c. search table-stop)
     (λ c. search needs)
     (λ c. search needs)
-    (λ c. search (orders-next, step-size))
+    (λ c. search (table-next, step-size))
     (λ c. search needs)
     (λ c. search table-all))

@@ -1,6 +1,6 @@
 use Prim.Native.Nat.{_-_}
 use borrow.Author.Needs.{needs}
-use Rattle.reader.proofs.Tables.{Writes, writes-begun, writes-stop, writes-next, table-all, table-room}
+use Rattle.reader.proofs.Tables.{Writes, table-begun, table-stop, table-next, table-all, table-room}
 use Rattle.case.proofs.Pad.{step-size}
 use Rattle.reader.proofs.read_writes.Statement.{statement}
 use Rattle.reader.proofs.read_writes.Tie as tie
@@ -17,7 +17,7 @@ read-writes-spec =
     (tie.spec
     Inv-loop
     μ-loop
-    (λ c. search writes-begun)
+    (λ c. search table-begun)
     (λ c. search needs)
     (λ c. search needs)
     (λ c. search needs)
@@ -27,9 +27,9 @@ read-writes-spec =
     (λ c. search needs)
     (λ c. search needs)
     (λ c. search needs)
-    (λ c. search writes-stop)
+    (λ c. search table-stop)
     (λ c. search needs)
     (λ c. search needs)
-    (λ c. search (writes-next, step-size))
+    (λ c. search (table-next, step-size))
     (λ c. search needs)
     (λ c. search table-all))
