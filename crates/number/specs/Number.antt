@@ -46,6 +46,10 @@ encodeBy (suc n) v = cond (ltb v 128) (v ∷ []) ((128 + v % 128) ∷ encodeBy n
 unfoldable pub encode : ℕ → List ℕ
 encode v = encodeBy v v
 
+-- the most bytes that a number of 32 bits takes
+abbrev pub widest : ℕ
+widest = 5
+
 -- the list s with xs from at on
 unfoldable pub splice : List ℕ → ℕ → List ℕ → List ℕ
 splice s at xs = take at s ++ xs ++ drop (at + length xs) s

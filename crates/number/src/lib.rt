@@ -2,7 +2,7 @@
 ghost use mathlib.Core.Path.{_≡_};
 ghost use Prim.Native.Nat.{_+_, _≤_, _<_};
 ghost use lib.ListN.{length};
-ghost use Rattle.number.specs.Number.{readNumber, encode, splice};
+ghost use Rattle.number.specs.Number.{readNumber, encode, widest, splice};
 ghost use Rattle.number.specs.Reader.{numberOut, refusalOf, within};
 
 // The most groups of a number.
@@ -89,6 +89,19 @@ pub fn read_number(bytes: &[u8], at: usize, limit: u32) -> NumberRead
         left -= 1;
     }
     NumberRead::Refused(2, at)
+}
+
+// How many bytes v takes.
+pub fn size(v: u32) -> usize
+    ensures { λ r. ⌜ (r ≡ length (encode v)) × (r ≤ widest) ⌝ }
+{
+    let mut rest = v;
+    let mut size: usize = 1;
+    while 128 <= rest {
+        rest /= 128;
+        size += 1;
+    }
+    size
 }
 
 // Writes v from at on; gives where the next number starts.

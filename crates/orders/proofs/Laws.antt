@@ -11,17 +11,13 @@ use lib.Bits.{bitAnd, bitOr}
 use borrow.Author.Tests.{eqb-true, eq-eqb, ne-eqb, ltb-true, lt-ltb, ltb-false}
 use Rattle.finite.specs.Tests.{all, some, count, tick, _⇒_}
 use Rattle.finite.specs.Lists.{table}
-use Rattle.finite.proofs.Tests.{iff, and-l, and-r, and-i, or-l, or-r, or-e, is-false, all-get, all-make, all-same, all-swap, all-not, imp-all, imp-e, imp-i, some-make, some-none, count-same}
+use Rattle.finite.proofs.Tests.{iff, and-l, and-r, and-i, or-l, or-r, or-e, is-false, all-get, all-make, all-same, all-swap, all-not, imp-all, imp-e, imp-i, some-make, some-none, count-same, and-true, eqb-sym}
 use Rattle.bits.specs.Bit.{bit}
 use Rattle.model.specs.Rules.{first}
 use Rattle.rows.specs.Sets.{Set}
 use Rattle.rows.specs.May.{Relation, may13, may14}
 use Rattle.rows.proofs.SetLaws.{but, set-same, either, share, as-set, and-some-imp}
 use Rattle.orders.specs.Parts.{closed, listed, coherent}
-
-and-true : (x : Bool) → (x && true) ≡ x
-and-true true = refl
-and-true false = refl
 
 -- ---- 11
 
@@ -33,9 +29,6 @@ pub closed-rest : (k : ℕ) (known asked : ℕ → ℕ → Bool) (a : ℕ) → k
 closed-rest k known asked a h = ap (λ t. not t && (all k λ b. known a b ⇒ (all k λ d. known b d ⇒ asked a d))) (sym h)
 
 -- ---- 12
-
-eqb-sym : (a b : ℕ) → eqb a b ≡ eqb b a
-eqb-sym a b = iff (λ h. eq-eqb b a (sym (eqb-true a b h))) (λ h. eq-eqb a b (sym (eqb-true b a h)))
 
 but-own-too : (o x y q : Bool) → (o ⇒ (x || (o && y) || q)) ≡ ((o && not q) ⇒ (x || y))
 but-own-too true x y q = but true (x || y) q
@@ -119,15 +112,6 @@ by-store n k isStore storeFor written known =
     ∙ all-swap k n (λ b p. (storeFor a b && known p a b) ⇒ written a b))
     ∙ imp-all n (isStore a) (λ p. all k (λ b. (storeFor a b && known p a b) ⇒ written a b)))
     ∙ all-swap k n (λ a p. isStore a ⇒ all k (λ b. (storeFor a b && known p a b) ⇒ written a b))
-
-pub count-le : (n : ℕ) (p : ℕ → Bool) → count n p ≤ n
-unfolding count
-count-le zero p = omega arith
-count-le (suc n) p = let h : count n p ≤ n = count-le n p in let g : tick (p n) ≤ 1 = tick-le (p n) in omega arith
-  where
-    tick-le : (b : Bool) → tick b ≤ 1
-    tick-le true = omega arith
-    tick-le false = omega arith
 
 -- the stores of a set, and how many there are
 pub count-set : (k : ℕ) {x r : ℕ} {f : ℕ → Bool} → Set x f → r ≡ count k (bit x) → r ≡ count k f

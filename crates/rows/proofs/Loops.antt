@@ -1,39 +1,21 @@
--- What holds at each turn of a loop that tests, of one that unites sets, and of one that fills a list.
+-- What holds at each turn of a loop that unites sets, and of one that fills a list.
 -- Assumes nothing.
 use Prim.Native.Nat.{ℕ, _+_, _≤_, _<_}
 use native.Mathlib.Nat.{le-antisymm}
 use native.Mathlib.Numerals.{add-one}
 use native.Mathlib.Omega.{arith}
 use mathlib.Core.Path.{_≡_, sym, ap, ap₂, _∙_, subst}
-use mathlib.Core.Bool.{Bool, true, false, not, _||_}
+use mathlib.Core.Bool.{Bool, _||_}
 use mathlib.Core.List.{List}
 use lib.ListN.{length, getD, set, length-set}
 use lib.Bits.{bitOr}
 use lib.Seq.{getD-set-same, getD-set-other}
 use native.Mathlib.Decide.{ℕ-discrete}
-use Rattle.finite.specs.Tests.{all, some}
-use Rattle.finite.proofs.Tests.{all-none, loop-fails, loop-goes-on, loop-ends, some-empty}
+use Rattle.finite.specs.Tests.{some}
+use Rattle.finite.proofs.Tests.{some-empty}
 use Rattle.bits.specs.Bit.{bit}
 use Rattle.bits.proofs.Bits.{bit-zero, bit-or}
 use Rattle.rows.specs.Sets.{Set, Sets}
-
--- every number below i passes
-pub record Passed (n : ℕ) (p : ℕ → Bool) (i : ℕ) : Type 0 where
-  pub within : i ≤ n
-  pub pass : all i p ≡ true
-
-module _ {n : ℕ} {p : ℕ → Bool} where
-  pub begun : Passed n p 0
-  begun = record { within = omega arith; pass = all-none p }
-
-  pub fails : {i : ℕ} {x : Bool} → Passed n p i → i < n → x ≡ p i → not x ≡ true → false ≡ all n p
-  fails {i} h l e t = loop-fails n p i l e t
-
-  pub passes : {i : ℕ} {x : Bool} → Passed n p i → i < n → x ≡ p i → not x ≡ false → Passed n p (i + 1)
-  passes {i} h l e t = record { within = omega arith; pass = loop-goes-on n p i (h .pass) e t }
-
-  pub ends : {i : ℕ} → Passed n p i → n ≤ i → true ≡ all n p
-  ends {i} h g = loop-ends n p i (h .pass) (h .within) g
 
 -- the set is what the first i of the parts hold
 pub record United (n : ℕ) (f : ℕ → ℕ → Bool) (i acc : ℕ) : Type 0 where

@@ -11,21 +11,13 @@ use lib.Bits.{bitAnd, bitOr, and-le-l, and-le-r}
 use lib.Count.{trailingZeros, under}
 use borrow.Author.Tests.{eqb-true, eq-eqb, ltb-true, lt-ltb, not-true, not-false}
 use Rattle.finite.specs.Tests.{all, some}
-use Rattle.finite.proofs.Tests.{iff, and-l, and-r, and-i, or-l, or-r, or-e, is-false, all-make, all-not, some-make, some-none, some-same}
+use Rattle.finite.proofs.Tests.{iff, and-l, and-r, and-i, or-l, or-r, or-e, is-false, all-make, all-not, some-make, some-none, some-same, and-true, and-false}
 use Rattle.bits.specs.Bit.{bit, width}
 use Rattle.bits.proofs.Bits.{bit-zero, bit-and, bit-or, bit-low, bit-suc}
 use Rattle.rows.specs.Sets.{Set}
 use Rattle.rows.proofs.SetLaws.{some-out}
 
 -- ---- the lowest event of a set
-
-and-false : (b : Bool) → (b && false) ≡ false
-and-false true = refl
-and-false false = refl
-
-kept : (b : Bool) → (b && true) ≡ b
-kept true = refl
-kept false = refl
 
 and-same : (b : Bool) → (b && b) ≡ (b && true)
 and-same true = refl
@@ -115,7 +107,7 @@ module _ {k set : ℕ} {p : ℕ → Bool} where
 
         by : (j : ℕ) → j < k → (q : Bool) → eqb j i ≡ q → bit next j ≡ false → p j ≡ true
         by j l true q u = ap p (eqb-true j i q) ∙ sym e ∙ not-false y t
-        by j l false q u = v .past j l (sym (kept (bit rest j)) ∙ ap (λ b. bit rest j && not b) (sym q) ∙ sym (left j) ∙ u)
+        by j l false q u = v .past j l (sym (and-true (bit rest j)) ∙ ap (λ b. bit rest j && not b) (sym q) ∙ sym (left j) ∙ u)
 
   pub visit-ends : {rest : ℕ} → Visited k set p rest → rest ≡ 0 → true ≡ all k p
   visit-ends {rest} v z = sym (all-make k p (λ i l. v .past i l (ap (λ (x : ℕ). bit x i) z ∙ bit-zero i)))
@@ -175,7 +167,7 @@ module _ {k set : ℕ} {f : ℕ → ℕ → Bool} where
                 or-l (some k (λ j. not (bit rest j) && f j e)) (f i e)
                 (some-make k (λ j. not (bit rest j) && f j e) j l
                 (and-i (not (bit rest j)) (f j e)
-                (ap not (sym (kept (bit rest j)) ∙ ap (λ b. bit rest j && not b) (sym q) ∙ sym (left j)) ∙ and-l (not (bit next j)) (f j e) w)
+                (ap not (sym (and-true (bit rest j)) ∙ ap (λ b. bit rest j && not b) (sym q) ∙ sym (left j)) ∙ and-l (not (bit next j)) (f j e) w)
                 (and-r (not (bit next j)) (f j e) w)))
 
   pub gather-all : {rest acc : ℕ} → Gathered k set f rest acc → rest ≡ 0 → Set acc (λ e. some k (λ j. f j e))

@@ -17,6 +17,7 @@ use Rattle.bits.proofs.Bits.{bit-below}
 use Rattle.model.specs.Limits.{mostEvents}
 use Rattle.model.specs.Case.{Event, noEvent, bare, load, store, sync, mostKind}
 use Rattle.model.specs.Rules.{kind, thread, address, value, initial, isLoad, isStore, isBarrier, of, before}
+use Rattle.case.proofs.Masks.{bit-left}
 use Rattle.case.specs.declared.Case.{Case as Held}
 use Rattle.case.specs.Held.{eventOf, eventsOf, caseOf}
 use Rattle.rows.specs.Sets.{orderIn}
@@ -37,17 +38,6 @@ module _ (k t a v : ℕ) where
   event-full : bare k ≡ false → eventOf k t a v ≡ record { kind = k; thread = t; address = a; value = v }
   unfolding eventOf
   event-full h = ap (λ b. cond b (record { kind = k; thread = t; address = 0; value = 0 }) (record { kind = k; thread = t; address = a; value = v })) h
-
-bit-mod : (x k b : ℕ) → b < k → bit (x % 2 ^ k) b ≡ bit x b
-bit-mod x k b l =
-    ap (λ (y : ℕ). bit y b) (sym (and-mask x k)) ∙ bit-below x k b ∙ ap (λ t. bit x b && t) (lt-ltb b k l) ∙ and-true (bit x b)
-  where
-    and-true : (y : Bool) → (y && true) ≡ y
-    and-true true = refl
-    and-true false = refl
-
-pub eqb-sym : (a b : ℕ) → eqb a b ≡ eqb b a
-eqb-sym a b = iff (λ h. eq-eqb b a (sym (eqb-true a b h))) (λ h. eq-eqb a b (sym (eqb-true b a h)))
 
 module _ (c : Held) where
   pub event-in : (e : ℕ) → e < c .events → getD (caseOf c .events) e noEvent ≡ eventOf (getD (c .kind) e 0) (getD (c .thread) e 0) (getD (c .address) e 0) (getD (c .value) e 0)
@@ -83,7 +73,7 @@ module _ (c : Held) where
   before-in p lp a la b lb =
       sym (ap (λ (r : List ℕ). bit (getD r a 0) b) (table-get (c .threads) (λ p. table 0 (c .events) (λ a. getD (c .rows) (p * mostEvents + a) 0 % 2 ^ c .events)) p [] lp)
       ∙ ap (λ (r : ℕ). bit r b) (table-get (c .events) (λ a. getD (c .rows) (p * mostEvents + a) 0 % 2 ^ c .events) a 0 la)
-      ∙ bit-mod (getD (c .rows) (p * mostEvents + a) 0) (c .events) b lb)
+      ∙ bit-left (getD (c .rows) (p * mostEvents + a) 0) (c .events) b lb)
 
   -- by kind
   pub load-in : (e : ℕ) → e < c .events → isLoad (caseOf c) e ≡ eqb (getD (c .kind) e 0) load

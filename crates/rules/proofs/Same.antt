@@ -11,7 +11,7 @@ use lib.ListN.{getD}
 use lib.Bits.{bitOr}
 use borrow.Author.Tests.{lt-ltb, not-true, not-false}
 use Rattle.finite.specs.Tests.{count, _⇒_}
-use Rattle.finite.proofs.Tests.{and-l, count-same, all-same, some-same}
+use Rattle.finite.proofs.Tests.{and-l, count-same, all-same, some-same, eqb-sym}
 use Rattle.finite.proofs.Lists.{table-get}
 use Rattle.bits.specs.Bit.{bit}
 use Rattle.bits.proofs.Bits.{bit-or}
@@ -28,7 +28,7 @@ use Rattle.orders.specs.Parts.{writesIn, writtenIn}
 use Rattle.values.specs.Parts.{equalIn, threadIn}
 use Rattle.rules.specs.declared.EventSets.{EventSets}
 use Rattle.rules.specs.Verdict.{Agrees, modelOf, judgedIn, freshIn, orderVerdict, valueVerdict, barrierVerdict}
-use Rattle.rules.proofs.Means.{kind-in, thread-in, address-in, value-in, initial-in, before-in, load-in, store-in, barrier-in, of-in, load-full, store-full, full-kind, not-not, eqb-sym}
+use Rattle.rules.proofs.Means.{kind-in, thread-in, address-in, value-in, initial-in, before-in, load-in, store-in, barrier-in, of-in, load-full, store-full, full-kind, not-not}
 
 -- under a test
 under : (x x′ : Bool) {y y′ : Bool} → x ≡ x′ → (x′ ≡ true → y ≡ y′) → (x ⇒ y) ≡ (x′ ⇒ y′)

@@ -19,42 +19,7 @@ use Rattle.model.specs.Case.{bare}
 use Rattle.model.specs.Written.{eventBytes}
 use Rattle.case.specs.Held.{eventOf}
 use Rattle.case.proofs.Events.{event-by}
-use Rattle.writer.specs.Stages.{run, sum, frontBytes, bitBytes, rowAt, pairs, orderAt, byteAt, nameBytes, Room, Wrote, Size, mostNumber}
-
--- ---- the size of a number
-encode-few : (n v : ℕ) → v < 128 ^ suc n → length (encode v) ≤ suc n
-encode-few zero v h = rw (encode-low v (omega arith)) (omega arith)
-encode-few (suc n) v h =
-    ⊎-elim (λ l. rw (encode-low v l) (omega arith))
-    (λ g. rw (encode-high v g)
-    (let h′ : v < 128 ^ suc n * 128 = subst (λ (x : ℕ). v < x) (pow-suc 128 (suc n)) h in
-    let i : length (encode (v / 128)) ≤ suc n = encode-few n (v / 128) (omega arith) in
-    omega arith))
-    (lt-or-ge v 128)
-
-pub number-few : (v : ℕ) → v < 2 ^ 32 → length (encode v) ≤ mostNumber
-number-few v h = encode-few 4 v (omega arith)
-
--- size bytes were counted, but for those of the rest
-pub record Counted (v rest size : ℕ) : Type 0 where
-  pub same : size + length (encode rest) ≡ 1 + length (encode v)
-
-pub counted-none : (v : ℕ) → Counted v v 1
-counted-none v = record { same = refl }
-
-module _ (v rest size : ℕ) (h : Counted v rest size) where
-  pub one-counted : 128 ≤ rest → Counted v (rest / 128) (size + 1)
-  one-counted g =
-      let e : length (encode rest) ≡ 1 + length (encode (rest / 128)) = rw (encode-high rest g) (omega arith) in
-      record { same = omega (arith, h .same) }
-
-  pub counted-small : v < 2 ^ 32 → size ≤ mostNumber
-  counted-small b = omega (arith, h .same, number-few v b, encode-long rest)
-
-  pub counted-all : v < 2 ^ 32 → rest < 128 → Size (encode v) mostNumber size
-  counted-all b g =
-      let e : length (encode rest) ≡ 1 = rw (encode-low rest g) in
-      record { size = omega (arith, h .same); few = counted-small b }
+use Rattle.writer.specs.Stages.{run, sum, frontBytes, bitBytes, rowAt, pairs, orderAt, byteAt, nameBytes, Room, Wrote, Size}
 
 -- ---- sizes one behind the other
 pub size-append : (v w : List ℕ) (a b x y : ℕ) → Size v a x → Size w b y → Size (v ++ w) (a + b) (x + y)

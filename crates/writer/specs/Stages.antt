@@ -6,7 +6,7 @@ use mathlib.Core.Bool.{cond}
 use mathlib.Core.List.{List, [], _∷_, _++_}
 use lib.ListN.{length, getD}
 use Rattle.finite.specs.Tests.{count}
-use Rattle.number.specs.Number.{encode, splice}
+use Rattle.number.specs.Number.{encode, splice, widest}
 use Rattle.bits.specs.Bit.{bit}
 use Rattle.model.specs.Limits.{mostEvents}
 use Rattle.model.specs.Written.{eventBytes}
@@ -79,9 +79,9 @@ pub record Wrote (before : List ℕ) (at : ℕ) (w after : List ℕ) (next : ℕ
   pub next-is : next ≡ at + length w
   pub buffer : after ≡ splice before at w
 
--- the most bytes of any number of 32 bits, and of what is made of such numbers
+-- the most bytes of a number, and of what is made of numbers
 abbrev pub mostNumber : ℕ
-mostNumber = 5
+mostNumber = widest
 
 abbrev pub mostTwo : ℕ
 mostTwo = mostNumber + mostNumber

@@ -61,13 +61,7 @@ fn count_pairs(rows: &[u64; Case::MOST_THREADS * Case::MOST_EVENTS], p: usize, k
 fn size_of(v: u32) -> usize
     ensures { λ r. ⌜ Size (encode v) mostNumber r ⌝ }
 {
-    let mut rest = v;
-    let mut size: usize = 1;
-    while 128 <= rest {
-        rest /= 128;
-        size += 1;
-    }
-    size
+    number::size(v)
 }
 
 // Two numbers.

@@ -3,7 +3,7 @@ use Prim.Native.Nat.{_-_}
 use borrow.Author.Needs.{needs}
 use native.Mathlib.Omega.{arith}
 use Rattle.rows.specs.Sets.{orderIn}
-use Rattle.rows.proofs.Loops.{Passed, begun, fails, passes, ends}
+use Rattle.finite.proofs.Loops.{Passed, begun, fails, passes, ends}
 use Rattle.orders.specs.Parts.{closed}
 use Rattle.orders.proofs.closed_order.Statement.{statement}
 use Rattle.orders.proofs.closed_order.Tie as tie

@@ -10,7 +10,8 @@ use Rattle.rows.specs.Sets.{orderIn, storeIn}
 use Rattle.bits.specs.Bit.{bit}
 use Rattle.model.specs.Rules.{first}
 use Rattle.orders.specs.Parts.{writesIn, writtenIn}
-use Rattle.orders.proofs.Laws.{count-le, count-set}
+use Rattle.finite.proofs.Tests.{count-le}
+use Rattle.orders.proofs.Laws.{count-set}
 use Rattle.rows.proofs.SetLaws.{as-set, set-as, share, imp-yes, imp-not}
 use Rattle.model.specs.Limits.{mostAddresses}
 use Rattle.finite.proofs.Tests.{all-same}

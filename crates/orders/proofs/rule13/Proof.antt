@@ -6,7 +6,7 @@ use mathlib.Core.Path.{_∙_}
 use Rattle.finite.specs.Tests.{all}
 use Rattle.rows.specs.Sets.{orderIn, setIn}
 use Rattle.bits.specs.Bit.{bit}
-use Rattle.rows.proofs.Loops.{Passed, begun, fails, passes, ends}
+use Rattle.finite.proofs.Loops.{Passed, begun, fails, passes, ends}
 use Rattle.orders.specs.Parts.{listed}
 use Rattle.orders.proofs.Laws.{by-listing}
 use Rattle.orders.proofs.rule13.Statement.{statement}

@@ -5,7 +5,7 @@ use native.Mathlib.Omega.{arith}
 use mathlib.Core.Path.{_∙_}
 use Rattle.rows.specs.Sets.{orderIn, storeIn}
 use Rattle.bits.specs.Bit.{bit}
-use Rattle.rows.proofs.Loops.{Passed, begun, fails, passes, ends}
+use Rattle.finite.proofs.Loops.{Passed, begun, fails, passes, ends}
 use Rattle.orders.specs.Parts.{coherent, writtenIn}
 use Rattle.orders.proofs.Laws.{by-store}
 use Rattle.orders.proofs.rule14.Statement.{statement}

@@ -7,7 +7,8 @@ use Rattle.rules.specs.Finals.{storedIn, lastIn}
 use Rattle.rules.proofs.Last.{cond-yes, cond-no, stored-here}
 use Rattle.finite.specs.Tests.{count}
 use native.Mathlib.Nat.{le-trans}
-use Rattle.orders.proofs.Laws.{count-le, count-set}
+use Rattle.finite.proofs.Tests.{count-le}
+use Rattle.orders.proofs.Laws.{count-set}
 use Rattle.rows.proofs.SetLaws.{set-as, share, as-set}
 use borrow.Author.Tests.{lt-ltb, le-ltb}
 use Rattle.model.specs.Limits.{mostEvents}

@@ -5,7 +5,7 @@ use native.Mathlib.Omega.{arith}
 use Rattle.finite.specs.Tests.{all, _⇒_}
 use Rattle.rows.specs.Sets.{orderIn}
 use Rattle.bits.specs.Bit.{bit}
-use Rattle.rows.proofs.Loops.{Passed, begun, fails, passes, ends}
+use Rattle.finite.proofs.Loops.{Passed, begun, fails, passes, ends}
 use Rattle.values.proofs.leads_everywhere.Statement.{statement}
 use Rattle.values.proofs.leads_everywhere.Tie as tie
 

@@ -5,7 +5,7 @@ use native.Mathlib.Omega.{arith}
 use Rattle.finite.specs.Tests.{all}
 use Rattle.rows.specs.Sets.{orderIn, setIn, storeIn}
 use Rattle.bits.specs.Bit.{bit}
-use Rattle.rows.proofs.Loops.{Passed, begun, fails, passes, ends}
+use Rattle.finite.proofs.Loops.{Passed, begun, fails, passes, ends}
 use Rattle.values.specs.Parts.{supplied}
 use Rattle.rows.specs.May.{may15}
 use Rattle.values.proofs.rule15.Statement.{statement}

@@ -4,7 +4,7 @@ use borrow.Author.Needs.{needs}
 use native.Mathlib.Omega.{arith}
 use Rattle.finite.specs.Tests.{all}
 use Rattle.rows.specs.Sets.{orderIn, setIn, storeIn}
-use Rattle.rows.proofs.Loops.{Passed, begun, fails, passes, ends}
+use Rattle.finite.proofs.Loops.{Passed, begun, fails, passes, ends}
 use Rattle.values.specs.Parts.{equalIn, overwritten}
 use Rattle.rows.specs.May.{may16}
 use Rattle.values.proofs.rule16.Statement.{statement}

@@ -1,24 +1,9 @@
 -- `writer::size_of` meets its contract. Assumes nothing.
-use native.Mathlib.Omega.{arith}
 use borrow.Author.Needs.{needs}
-use Rattle.writer.proofs.Runs.{Counted, counted-none, one-counted, counted-small, counted-all}
 use Rattle.writer.proofs.size_of.Statement.{statement}
 use Rattle.writer.proofs.size_of.Tie as tie
-
-abbrev Inv-loop : tie.InvT-loop
-Inv-loop v rest₀ size₀ rest size = Counted v rest size
-
-abbrev μ-loop : tie.MeasureT-loop
-μ-loop v rest₀ size₀ rest size = rest
 
 pub size-of-spec : {M : Type 1} → statement M
 size-of-spec =
     tie.close
-    (tie.spec
-    Inv-loop
-    μ-loop
-    (λ c. counted-none _)
-    (λ c. omega (arith, counted-small _ _ _ (c .before .loop .inv) (c .before .before .fits .v .fits)))
-    (λ c. search needs)
-    (λ c. search one-counted)
-    (λ c. counted-all _ _ _ (c .before .loop .inv) (c .before .before .fits .v .fits) (c .loop-test .left)))
+    (tie.spec (λ c κs. search needs) (λ c. record { size = c .size .ensures .0; few = c .size .ensures .1 }))
