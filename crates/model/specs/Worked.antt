@@ -1091,12 +1091,17 @@ unfoldable pub callCases : List Row
 callCases =
     -- No call
     composing 2 2 19 [] 0 0 ∷
-    -- What does not change them: judgings, a refused one too; a renumbering that does not fit, one of too little room, one whose
-    -- place is past the end; the calls that take a case. Then two renumberings that are accepted
-    composing 2 2 19
-    (judging 1 [] ∷ judging 7 [] ∷ renumbering 2 0 [] (lent 30) 0 ∷ renumbering 0 24 [] (lent 30) 0 ∷ renumbering 6 6 [] (lent 30) 12 ∷ renumbering 6 6 [] (lent 30) 31
-    ∷ judgingCase 0 ∷ renumberingCase 6 6 ∷ renumbering 6 0 [] (lent 30) 11 ∷ renumbering 6 6 (9 ∷ []) (lent 19) 0 ∷ [])
-    0 6 ∷
+    -- What does not change them: judgings, a refused one too, and the calls that take a case
+    composing 2 2 19 (judging 1 [] ∷ judging 7 [] ∷ judgingCase 0 ∷ renumberingCase 6 6 ∷ []) 0 0 ∷
+    -- A permutation that does not fit, of threads, of addresses; no permutation
+    composing 2 2 19 (renumbering 2 6 [] (lent 30) 0 ∷ []) 0 0 ∷
+    composing 2 2 19 (renumbering 6 2 [] (lent 30) 0 ∷ []) 0 0 ∷
+    composing 2 2 19 (renumbering 24 6 [] (lent 30) 0 ∷ []) 0 0 ∷
+    -- One byte too few; a place past the end
+    composing 2 2 19 (renumbering 6 6 [] (lent 30) 12 ∷ []) 0 0 ∷
+    composing 2 2 19 (renumbering 6 6 [] (lent 30) 31 ∷ []) 0 0 ∷
+    -- As many bytes as the record takes, after a refused one and before another
+    composing 2 2 19 (renumbering 6 6 [] (lent 18) 0 ∷ renumbering 6 0 (9 ∷ []) (lent 30) 11 ∷ renumbering 0 24 [] (lent 30) 0 ∷ []) 6 0 ∷
     -- First 2, then 6, is 8; the other way round it would be 12
     composing 3 3 19 (renumbering 2 6 [] (lent 19) 0 ∷ renumbering 6 2 [] (lent 19) 0 ∷ []) 8 12 ∷ []
 
