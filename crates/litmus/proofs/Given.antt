@@ -17,7 +17,7 @@ use Rattle.model.specs.Record.{read}
 use Rattle.model.specs.Written.{recordOf}
 use Rattle.model.specs.Fault.{fault}
 use Rattle.model.specs.Renumber.{renumber, fitting}
-use Rattle.model.specs.Answers.{Answer, Stored, noFinals, judgement, judgeOut, judge, judgeCase, underModel, refusal, done, answerOf, handed, faultless, put, putOut, write, roomIn, renumberOut, renumberRecord, renumberCase}
+use Rattle.model.specs.Answers.{Answer, Stored, judgement, judgeOut, judge, judgeCase, underModel, refusal, done, answerOf, handed, faultless, put, putOut, write, roomIn, renumberOut, renumberRecord, renumberCase}
 use Rattle.laws.proofs.Fits.{Fits, Bytes}
 use Rattle.laws.proofs.Refits.{refits, same-length}
 use Rattle.case.specs.declared.Case.{Case as Held}
@@ -31,9 +31,10 @@ use Rattle.reader.specs.declared.Reading.{Reading}
 use Rattle.rules.specs.Verdict.{modelOf}
 use Rattle.litmus.proofs.Models.{some-model}
 use Rattle.litmus.proofs.Found.{Found, case-is}
-use Rattle.litmus.specs.declared.Answer.{Answer as Shown}
+use Rattle.answers.specs.declared.Answer.{Answer as Shown}
+use Rattle.answers.specs.Shown.{shown}
 use Rattle.litmus.specs.declared.CaseAnswer.{CaseAnswer}
-use Rattle.litmus.specs.Shown.{shown, caseShown}
+use Rattle.litmus.specs.Shown.{caseShown}
 
 -- a case handed without bytes
 module _ (c : Case) where
@@ -154,11 +155,7 @@ module _ (c : Held) (q r : ℕ) where
   unfolding renumberCase
   case-faulty x e z = sym (ap (λ (o : Out Case). caseShown (renumberOut q r o)) (handed-bad (caseOf c) x e z))
 
--- judging by the verdict
-pub judged-broken : (c : Case) (i v : ℕ) → (v ≡ 0 → ⊥) → judgement c i v ≡ record { number = v; place = 0; length = i; finals = noFinals }
-judged-broken c i zero z = absurd (z refl)
-judged-broken c i (suc v) z = refl
-
+-- judging
 module _ (model : ℕ) (h : model < 2) where
   abbrev named : Model
   named = modelOf (eqb model 1)

@@ -3,15 +3,12 @@
 use Prim.Native.Nat.{ℕ}
 use Rattle.number.specs.Reader.{Out, stop, next}
 use Rattle.model.specs.Case.{Case}
-use Rattle.model.specs.Answers.{Answer, answerOf, namePart}
+use Rattle.model.specs.Answers.{answerOf, namePart}
 use Rattle.case.specs.declared.Case.{Case as Held}
 use Rattle.case.specs.Held.{held, emptyCase}
-use Rattle.litmus.specs.declared.Answer.{Answer as Given}
+use Rattle.answers.specs.Shown.{shown}
 use Rattle.litmus.specs.declared.CaseAnswer.{CaseAnswer}
 use Rattle.litmus.specs.declared.Part.{Part}
-
-abbrev pub shown : Answer → Given
-shown a = record { number = a .number; place = a .place; length = a .length; finals = a .finals }
 
 -- 01: a case that is refused is the empty one
 abbrev pub caseIn : Out Case → Held

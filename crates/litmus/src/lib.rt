@@ -3,28 +3,15 @@ ghost use mathlib.Core.Path.{_≡_};
 ghost use lib.Dec.{eqb};
 ghost use lib.ListN.{replicate};
 ghost use Rattle.permutation.specs.Permutation.{composite as compositeOf, inverse as inverseOf, fits as fitsOf};
-ghost use Rattle.model.specs.Rules.{verdict as verdictOf};
 ghost use Rattle.model.specs.Record.{read as readRecord};
-ghost use Rattle.model.specs.Answers.{refusal, done, answerOf, judgement, judge as judgeRecord, judgeCase, put as putRecord, write as writeCase, renumberRecord, renumberCase, name as nameOf, judgedName, renumberedName, roomIn};
+ghost use Rattle.model.specs.Answers.{answerOf, judge as judgeRecord, judgeCase, write as writeCase, renumberRecord, renumberCase, name as nameOf, judgedName, renumberedName, roomIn};
 ghost use Rattle.number.specs.Reader.{stop};
-ghost use Rattle.model.specs.Written.{recordOf};
 ghost use Rattle.model.specs.Renumber.{fitting as fittingOf};
 ghost use Rattle.case.specs.Held.{caseOf};
-ghost use Rattle.case.specs.Sound.{Sound};
-ghost use Rattle.rules.specs.Verdict.{modelOf};
-ghost use Rattle.litmus.specs.Shown.{shown, caseShown, partShown};
+ghost use Rattle.answers.specs.Shown.{shown};
+ghost use Rattle.litmus.specs.Shown.{caseShown, partShown};
+pub use answers::Answer;
 use case::Case;
-
-// The answer of a call. The number is 0 (accepted or done), a refusal 1 to 7, or the lowest broken rule 11 to 18. The place
-// is where a faulty number starts, the length that of the record, and the finals are the final memory by address. Fields
-// that an answer doesn't speak of are 0.
-#[repr(C)]
-pub struct Answer {
-    pub number: u32,
-    pub place: usize,
-    pub length: usize,
-    pub finals: [u32; Case::MOST_ADDRESSES],
-}
 
 // An answer and its case, which is `Case::empty()` where it was refused.
 pub struct CaseAnswer {
@@ -39,36 +26,12 @@ pub struct Part {
     pub length: usize,
 }
 
-// The number of a model that is none (01: "model not 0 or 1"), of a permutation that doesn't fit, and of too little room.
+// The numbers of a model that is none and of a permutation that does not fit, and how many models there are.
 const NO_MODEL: u8 = 7;
 
 const NO_FIT: u8 = 5;
 
 const MODELS: u64 = 2;
-
-// A refusal and its place.
-fn refused(number: u8, place: usize) -> Answer
-    ensures { λ r. ⌜ r ≡ shown (refusal number place) ⌝ }
-{
-    Answer {
-        number: number as u32,
-        place,
-        length: 0,
-        finals: [0u32; Case::MOST_ADDRESSES],
-    }
-}
-
-// Done, with a record of so many bytes.
-fn finished(length: usize) -> Answer
-    ensures { λ r. ⌜ r ≡ shown (done length) ⌝ }
-{
-    Answer {
-        number: 0,
-        place: 0,
-        length,
-        finals: [0u32; Case::MOST_ADDRESSES],
-    }
-}
 
 // Reads a record: 0, its length and its case, or 1 to 4 and the place.
 pub fn read(bytes: &[u8]) -> CaseAnswer
@@ -85,42 +48,19 @@ pub fn read(bytes: &[u8]) -> CaseAnswer
     CaseAnswer { answer, case }
 }
 
-// The verdict and the finals of a case whose record is so many bytes long.
-fn judged(c: Case, length: usize, strong: bool) -> Answer
-    requires { ⌜ Sound c ⌝ }
-    ensures { λ r. ⌜ r ≡ shown (judgement (caseOf c) length (verdictOf (caseOf c) (modelOf strong))) ⌝ }
-{
-    let number = rules::verdict(c, strong);
-    if number == 0 {
-        let finals = rules::finals(c);
-        return Answer {
-            number: 0,
-            place: 0,
-            length,
-            finals,
-        };
-    }
-    Answer {
-        number: number as u32,
-        place: 0,
-        length,
-        finals: [0u32; Case::MOST_ADDRESSES],
-    }
-}
-
 // Judges a record under model 0 (PPCw) or 1 (PPCs): 7 for any other; the record's 1 to 4; 11 to 18; or 0 with the finals.
 pub fn judge(bytes: &[u8], model: u64) -> Answer
     ensures { λ r. ⌜ r ≡ shown (judgeRecord model (now (bytes .entry))) ⌝ }
 {
     if MODELS <= model {
-        return refused(NO_MODEL, 0);
+        return answers::refused(NO_MODEL, 0);
     }
     let reading = reader::read_case(bytes);
     if reading.number == 0 {
         let case = reading.case;
-        return judged(case, reading.length, model == 1);
+        return answers::judged(case, reading.length, model == 1);
     }
-    refused(reading.number, reading.place)
+    answers::refused(reading.number, reading.place)
 }
 
 // The same of a case: 3 or 4 with place 0 where a field of it is bad. The length is that of its record.
@@ -128,29 +68,14 @@ pub fn judge_case(c: Case, model: u64) -> Answer
     ensures { λ r. ⌜ r ≡ shown (judgeCase model (caseOf c)) ⌝ }
 {
     if MODELS <= model {
-        return refused(NO_MODEL, 0);
+        return answers::refused(NO_MODEL, 0);
     }
     let fault = case::fault(c);
     if fault == 0 {
         let length = writer::size(c);
-        return judged(c, length, model == 1);
+        return answers::judged(c, length, model == 1);
     }
-    refused(fault, 0)
-}
-
-// Writes the record of a case without fault into the buffer from a place on, or 6.
-fn put(c: Case, out: &mut [u8], at: usize) -> Answer
-    requires { ⌜ Sound c ⌝ }
-    ensures { λ r. ⌜ r ≡ shown (putRecord (recordOf (caseOf c)) (now (out .entry)) at .answer) ⌝ }
-    ensures { λ r. ⌜ now (out .exit) ≡ putRecord (recordOf (caseOf c)) (now (out .entry)) at .buffer ⌝ }
-{
-    let stored = writer::put(c, out, at);
-    Answer {
-        number: stored.number as u32,
-        place: 0,
-        length: stored.length,
-        finals: [0u32; Case::MOST_ADDRESSES],
-    }
+    answers::refused(fault, 0)
 }
 
 // Writes a case's record into the buffer from a place on: 3 or 4 with place 0 for a bad field, then 6.
@@ -160,9 +85,9 @@ pub fn write(c: Case, out: &mut [u8], at: usize) -> Answer
 {
     let fault = case::fault(c);
     if fault == 0 {
-        return put(c, out, at);
+        return answers::put(c, out, at);
     }
-    refused(fault, 0)
+    answers::refused(fault, 0)
 }
 
 // Whether q maps the case's threads onto themselves, and r its addresses.
@@ -185,11 +110,11 @@ pub fn renumber(bytes: &[u8], q: u64, r: u64, out: &mut [u8], at: usize) -> Answ
     if reading.number == 0 {
         let case = reading.case;
         if fitting(case, q, r) {
-            return put(relabel::relabel(case, q as usize, r as usize), out, at);
+            return answers::put(relabel::relabel(case, q as usize, r as usize), out, at);
         }
-        return refused(NO_FIT, 0);
+        return answers::refused(NO_FIT, 0);
     }
-    refused(reading.number, reading.place)
+    answers::refused(reading.number, reading.place)
 }
 
 // Renumbers a case: 3 or 4 with place 0 for a bad field; 5; or 0, the length of its record and the case.
@@ -200,7 +125,7 @@ pub fn renumber_case(c: Case, q: u64, r: u64) -> CaseAnswer
     if fault == 0 {
         if fitting(c, q, r) {
             let case = relabel::relabel(c, q as usize, r as usize);
-            let answer = finished(writer::size(case));
+            let answer = answers::finished(writer::size(case));
             return CaseAnswer { answer, case };
         }
         return no_case(NO_FIT);
@@ -212,7 +137,7 @@ pub fn renumber_case(c: Case, q: u64, r: u64) -> CaseAnswer
 fn no_case(number: u8) -> CaseAnswer
     ensures { λ r. ⌜ r ≡ caseShown (stop number 0) ⌝ }
 {
-    let answer = refused(number, 0);
+    let answer = answers::refused(number, 0);
     let case = Case::empty();
     CaseAnswer { answer, case }
 }

@@ -2,7 +2,7 @@
 use mathlib.Core.Path.{_≡_, sym, ap, _∙_}
 use borrow.Author.Needs.{needs}
 use Rattle.model.specs.Answers.{judge}
-use Rattle.litmus.specs.Shown.{shown}
+use Rattle.answers.specs.Shown.{shown}
 use Rattle.litmus.proofs.Bytes.{slice-bytes}
 use Rattle.litmus.proofs.Found.{Found, found, missed, case-sound}
 use Rattle.litmus.proofs.Given.{judge-done, judge-missed}

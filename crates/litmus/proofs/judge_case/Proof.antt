@@ -3,7 +3,7 @@ use mathlib.Core.Path.{_≡_, sym, ap, _∙_}
 use borrow.Author.Needs.{needs}
 use Rattle.model.specs.Answers.{judgeCase}
 use Rattle.case.proofs.Bounds.{sound}
-use Rattle.litmus.specs.Shown.{shown}
+use Rattle.answers.specs.Shown.{shown}
 use Rattle.litmus.proofs.Given.{judge-good, judge-bad}
 use Rattle.litmus.proofs.Models.{no-model}
 use Rattle.litmus.proofs.judge_case.Statement.{statement}

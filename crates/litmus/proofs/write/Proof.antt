@@ -3,7 +3,7 @@ use mathlib.Core.Path.{_≡_, sym, ap, _∙_}
 use borrow.Author.Needs.{needs}
 use Rattle.model.specs.Answers.{Stored}
 use Rattle.case.proofs.Bounds.{sound}
-use Rattle.litmus.specs.Shown.{shown}
+use Rattle.answers.specs.Shown.{shown}
 use Rattle.litmus.proofs.Given.{write-good, write-bad}
 use Rattle.litmus.proofs.write.Statement.{statement}
 use Rattle.litmus.proofs.write.Tie as tie

@@ -1,11 +1,11 @@
--- `litmus::put` meets its contract. Assumes nothing.
+-- `answers::put` meets its contract. Assumes nothing.
 use mathlib.Core.Path.{_≡_, ap}
 use borrow.Author.Needs.{needs}
 use Rattle.model.specs.Answers.{Stored}
 use Rattle.writer.specs.Stored.{storedOf}
-use Rattle.litmus.specs.Shown.{shown}
-use Rattle.litmus.proofs.put.Statement.{statement}
-use Rattle.litmus.proofs.put.Tie as tie
+use Rattle.answers.specs.Shown.{shown}
+use Rattle.answers.proofs.put.Statement.{statement}
+use Rattle.answers.proofs.put.Tie as tie
 
 pub put-spec : {M : Type 1} → statement M
 unfolding storedOf

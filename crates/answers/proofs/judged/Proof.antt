@@ -1,14 +1,14 @@
--- `litmus::judged` meets its contract. Assumes nothing.
+-- `answers::judged` meets its contract. Assumes nothing.
 use Prim.Native.Nat.{ℕ}
 use mathlib.Core.Path.{_≡_, sym, ap, _∙_}
 use mathlib.Core.List.{List}
 use borrow.Author.Needs.{needs}
 use Rattle.model.specs.Answers.{judgement}
 use Rattle.case.specs.Held.{caseOf}
-use Rattle.litmus.specs.Shown.{shown}
-use Rattle.litmus.proofs.Given.{judged-broken}
-use Rattle.litmus.proofs.judged.Statement.{statement}
-use Rattle.litmus.proofs.judged.Tie as tie
+use Rattle.answers.specs.Shown.{shown}
+use Rattle.answers.proofs.Broken.{judged-broken}
+use Rattle.answers.proofs.judged.Statement.{statement}
+use Rattle.answers.proofs.judged.Tie as tie
 
 pub judged-spec : {M : Type 1} → statement M
 judged-spec =
