@@ -22,7 +22,7 @@ extern "C" {
 /* The models. */
 enum {
     LITMUS_PPCW = 0, /* rules 15 and 16 for each thread's own loads */
-    LITMUS_PPCS = 1  /* rules 15 and 16 for every load that a thread's order mentions */
+    LITMUS_PPCS = 1  /* rules 15 and 16 for every load of the thread or in its order */
 };
 
 /*

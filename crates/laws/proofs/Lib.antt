@@ -7,6 +7,8 @@ pub mod ExactCase
 pub mod Faultless
 pub mod Bound
 pub mod Meaning
+pub mod Models
+pub mod Printed
 pub mod NameBack
 pub mod Renamed
 pub mod Renumbered

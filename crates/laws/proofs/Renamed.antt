@@ -9,7 +9,7 @@ use Rattle.finite.proofs.Tests.{and-left, imp-cong, all-same}
 use Rattle.permutation.specs.Permutation.{image, fits}
 use Rattle.permutation.proofs.Laws.{all-image, image-eqb, fits-below}
 use Rattle.model.specs.Case.{Case, load, store, bare}
-use Rattle.model.specs.Rules.{Model, PPCw, PPCs, kind, thread, address, value, initial, isLoad, isStore, isBarrier, of, oneAddress, storeFor, before, everywhere, written, seen, readsFrom, judged}
+use Rattle.model.specs.Rules.{Model, PPCw, PPCs, kind, thread, address, value, initial, isLoad, isStore, isBarrier, of, oneAddress, storeFor, before, everywhere, written, paired, seen, readsFrom, judged}
 use Rattle.model.specs.Rules.{rule11, rule12, rule13, rule14, rule15, rule16, rule17, rule18, verdict}
 
 -- events of a kind that is not bare are no barriers
@@ -76,9 +76,13 @@ module _ (q r : ℕ) (c d : Case) (fq : T (fits q (c .n))) (fr : T (fits r (c .m
   unfolding everywhere
   everywheres a b = simp (R .n) (moved-all (λ p. before d p a b) ∙ simp (R .orders))
 
+  paireds : (p e : ℕ) → paired d (image q p) e ≡ paired c p e
+  unfolding paired
+  paireds p e = simp (R .k, R .orders)
+
   seens : (p e : ℕ) → seen d (image q p) e ≡ seen c p e
   unfolding seen
-  seens p e = simp (R .k, R .orders)
+  seens p e = simp (paireds, ofs)
 
   reads : (l s : ℕ) → readsFrom d l s ≡ readsFrom c l s
   unfolding readsFrom

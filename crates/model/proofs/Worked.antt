@@ -7,7 +7,7 @@ use Rattle.number.specs.Number.{after, readGroups, finish, readNumber, encodeBy
 use Rattle.number.specs.Reader.{unless, turns, times, upTo, within, below}
 use Rattle.bits.specs.Bit.{bit}
 use Rattle.permutation.specs.Permutation.{words, image, leastFrom, numbered, composite, inverse, fits}
-use Rattle.model.specs.Rules.{first, lastOf, kind, thread, address, value, initial, isLoad, isStore, isBarrier, of, oneAddress, storeFor, before, everywhere, written, seen, readsFrom, rule11, rule12, rule13, rule14, judged, rule15, rule16, rule17, rule18, verdict, final, finals}
+use Rattle.model.specs.Rules.{first, lastOf, kind, thread, address, value, initial, isLoad, isStore, isBarrier, of, oneAddress, storeFor, before, everywhere, written, paired, seen, readsFrom, rule11, rule12, rule13, rule14, judged, rule15, rule16, rule17, rule18, verdict, final, finals}
 use Rattle.model.specs.Record.{event, member, storeTo, unlisted, writeOrder, pair, risingPair, nextPair, order, bytes, head, listing, rest, case, read}
 use Rattle.model.specs.Written.{eventBytes, pairBytes, rowPairs, rowsPairs, orderBytes, recordOf}
 use Rattle.model.specs.Fault.{every, eventGood, writeFault, writesFault, fault}
@@ -19,7 +19,7 @@ use Rattle.model.specs.Worked.{lent, one, same, holds, worked, paperCase
 pub worked-cases : T (worked records)
 unfolding all some count table each after readGroups finish readNumber encodeBy encode splice unless turns times upTo within
     below bit words image leastFrom numbered composite inverse fits first lastOf kind thread address value initial isLoad isStore isBarrier of oneAddress
-    storeFor before everywhere written seen readsFrom rule11 rule12 rule13 rule14 judged rule15 rule16 rule17 rule18 verdict final
+    storeFor before everywhere written paired seen readsFrom rule11 rule12 rule13 rule14 judged rule15 rule16 rule17 rule18 verdict final
     finals event member storeTo unlisted writeOrder pair risingPair nextPair order bytes head listing rest case read eventBytes
     pairBytes rowPairs rowsPairs orderBytes recordOf every eventGood writeFault writesFault fault moved relabel renumber fitting
     handed put write judge judgeCase renumberRecord renumberCase name judgedName renumberedName lent one same holds worked paperCases

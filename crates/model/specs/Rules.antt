@@ -83,9 +83,13 @@ module _ (c : Case) where
   unfoldable pub written : ℕ → ℕ → Bool
   written a b = first a b (getD (c .writes) (address a) [])
 
-  -- e is in V(p): 01: "every event that stands in some pair of p's order"
+  -- 01: "stands in some pair of p's order"
+  unfoldable pub paired : ℕ → ℕ → Bool
+  paired p e = some k λ x. before p e x || before p x e
+
+  -- e is in V(p): 01, amended by 02 (i): "every event that stands in some pair of p's order", and "every event of thread p"
   unfoldable pub seen : ℕ → ℕ → Bool
-  seen p e = some k λ x. before p e x || before p x e
+  seen p e = paired p e || of p e
 
   -- load l reads from store s: 01: "both use one address and, in the order of l's thread, s precedes l and every other
   -- store to that address that precedes l also precedes s"

@@ -305,14 +305,14 @@ valueCases =
     1 ∷
     1 ∷ 0 ∷ 1 ∷
     0 ∷ []) ∷
-    -- 15 and 16 of a thread's own load that stands in no pair: PPCw asks, PPCs doesn't
-    judged (broken 15 11) (done 11)
+    -- 15, V(p) holds p's own load, though it stands in no pair (02 (i))
+    alike (broken 15 11)
     (1 ∷ 1 ∷ 1 ∷ 0 ∷
     1 ∷ 0 ∷ 0 ∷ 0 ∷ 2 ∷
     0 ∷
     0 ∷ []) ∷
     -- 15 before 16: 2 is not the store's value, and the load is unordered with the store
-    judged (broken 15 26) (accepted 26 (1 ∷ 0 ∷ 0 ∷ 0 ∷ []))
+    alike (broken 15 26)
     (1 ∷ 2 ∷ 2 ∷ 0 ∷ 0 ∷
     3 ∷ 0 ∷ 0 ∷ 0 ∷ 2 ∷ 0 ∷ 1 ∷ 1 ∷ 0 ∷ 1 ∷ 1 ∷ 0 ∷ 1 ∷
     2 ∷
@@ -320,7 +320,7 @@ valueCases =
     1 ∷ 1 ∷ 2 ∷
     0 ∷ []) ∷
     -- 16, a store in V(0) because it comes behind another event
-    judged (broken 16 26) (accepted 26 (1 ∷ 0 ∷ 0 ∷ 0 ∷ []))
+    alike (broken 16 26)
     (1 ∷ 2 ∷ 2 ∷ 0 ∷ 0 ∷
     3 ∷ 0 ∷ 0 ∷ 0 ∷ 0 ∷ 0 ∷ 1 ∷ 1 ∷ 0 ∷ 1 ∷ 1 ∷ 0 ∷ 1 ∷
     2 ∷
@@ -328,11 +328,19 @@ valueCases =
     1 ∷ 1 ∷ 2 ∷
     0 ∷ []) ∷
     -- 16, a store in V(0) because it comes before another event
-    judged (broken 16 26) (accepted 26 (1 ∷ 0 ∷ 0 ∷ 0 ∷ []))
+    alike (broken 16 26)
     (1 ∷ 2 ∷ 2 ∷ 0 ∷ 0 ∷
     3 ∷ 0 ∷ 0 ∷ 0 ∷ 0 ∷ 0 ∷ 1 ∷ 1 ∷ 0 ∷ 1 ∷ 1 ∷ 0 ∷ 1 ∷
     2 ∷
     1 ∷ 2 ∷ 1 ∷
+    1 ∷ 1 ∷ 2 ∷
+    0 ∷ []) ∷
+    -- 16, V(p) holds p's own store, though it stands in no pair: thread 0's order has thread 1's loads of 0 (02 (i))
+    judged (accepted 25 (1 ∷ 0 ∷ 0 ∷ 0 ∷ [])) (broken 16 25)
+    (1 ∷ 2 ∷ 1 ∷ 0 ∷
+    3 ∷ 1 ∷ 0 ∷ 0 ∷ 1 ∷ 0 ∷ 1 ∷ 0 ∷ 0 ∷ 0 ∷ 1 ∷ 0 ∷ 0 ∷
+    0 ∷
+    1 ∷ 1 ∷ 2 ∷
     1 ∷ 1 ∷ 2 ∷
     0 ∷ []) ∷
     -- 16, a store outside V(0): two loads of 0 beside it

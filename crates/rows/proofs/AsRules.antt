@@ -4,15 +4,15 @@ use Prim.Native.Nat.{ℕ}
 use mathlib.Core.Path.{_≡_, refl}
 use lib.Dec.{eqb}
 use Rattle.model.specs.Case.{Case}
-use Rattle.model.specs.Rules.{Model, thread, address, value, initial, isLoad, isStore, isBarrier, of, oneAddress, storeFor, before, everywhere, written, seen, readsFrom, judged, rule11, rule12, rule13, rule14, rule15, rule16, rule17, rule18}
-use Rattle.rows.specs.May.{sees, mustRead, may11, may12, may13, may14, may15, may16, may17, may18}
+use Rattle.model.specs.Rules.{Model, thread, address, value, initial, isLoad, isStore, isBarrier, of, oneAddress, storeFor, before, everywhere, written, paired, seen, readsFrom, judged, rule11, rule12, rule13, rule14, rule15, rule16, rule17, rule18}
+use Rattle.rows.specs.May.{pairs, mustRead, may11, may12, may13, may14, may15, may16, may17, may18}
 
 module _ (c : Case) where
   open Case c using (n, k)
 
-  sees-is : (p e : ℕ) → sees k (before c) p e ≡ seen c p e
-  unfolding sees seen
-  sees-is p e = refl
+  pairs-is : (p e : ℕ) → pairs k (before c) p e ≡ paired c p e
+  unfolding pairs paired
+  pairs-is p e = refl
 
   reads-is : (l s : ℕ) → mustRead k (isLoad c) (storeFor c) (thread c) (before c) (before c) l s ≡ readsFrom c l s
   unfolding mustRead readsFrom

@@ -14,7 +14,7 @@ use Rattle.finite.specs.Tests.{all, some, _⇒_}
 use Rattle.bits.specs.Bit.{bit, width}
 use Rattle.bits.proofs.Bits.{bit-zero, bit-or, bit-and, bit-with, bit-below, bit-ones, bit-ext}
 use Rattle.rows.specs.Sets.{Set}
-use Rattle.rows.specs.May.{Relation, sees}
+use Rattle.rows.specs.May.{Relation, pairs}
 use lib.Pow.{pow-pos}
 
 -- one of the two alone
@@ -62,10 +62,10 @@ some-only k f e =
     and-i (ltb e k) (f e) (lt-ltb e k (subst (λ (m : ℕ). m < k) (sym q) l)) (ap f q ∙ and-l (f a) (eqb e a) t)))
     (λ h. some-make k (λ a. f a && eqb e a) e (ltb-true e k (and-l (ltb e k) (f e) h)) (and-i (f e) (eqb e e) (and-r (ltb e k) (f e) h) (eq-eqb e e refl)))
 
--- what V(p) holds, by rows
-pub sees-by-rows : (k : ℕ) (r : ℕ → ℕ → Bool) (e : ℕ)
+-- the events of p's pairs, by rows
+pub paired-by-rows : (k : ℕ) (r : ℕ → ℕ → Bool) (e : ℕ)
     → some k (λ a. ltb e k && (r a e || (eqb e a && some k (r a)))) ≡ (ltb e k && some k (λ x. r e x || r x e))
-sees-by-rows k r e =
+paired-by-rows k r e =
     iff
     (λ h. some-out k (λ a. ltb e k && (r a e || (eqb e a && some k (r a)))) h
     (λ a l t.
@@ -89,11 +89,11 @@ sees-by-rows k r e =
     (and-i (ltb e k) (r x e || (eqb e x && some k (r x))) lt (or-l (r x e) (eqb e x && some k (r x)) u)))
     t))
 
--- V(p) by rows is V(p)
-pub seen-set : (k : ℕ) {r : ℕ} (known : Relation) (p : ℕ)
-    → Set r (λ e. some k (λ a. ltb e k && (known p a e || (eqb e a && some k (known p a))))) → Set r (λ e. ltb e k && sees k known p e)
-unfolding sees
-seen-set k known p s = set-same s (sees-by-rows k (known p))
+-- the events of p's pairs by rows are those of p's pairs
+pub paired-set : (k : ℕ) {r : ℕ} (known : Relation) (p : ℕ)
+    → Set r (λ e. some k (λ a. ltb e k && (known p a e || (eqb e a && some k (known p a))))) → Set r (λ e. ltb e k && pairs k known p e)
+unfolding pairs
+paired-set k known p s = set-same s (paired-by-rows k (known p))
 
 -- the events of a set below k
 pub masked : (k x : ℕ) {m r : ℕ} → r ≡ bitAnd x m → m ≡ 2 ^ k - 1 → Set r (λ e. bit x e && ltb e k)
@@ -117,9 +117,9 @@ some-below k x {r} fit s z = by (some k (bit x)) refl
         ∙ sym (bit-zero i))))
 
 -- a row's events, and a
-pub seen-with : (k a mine : ℕ) {those r : ℕ} → a < k → Set those (λ e. bit mine e && ltb e k) → some k (bit mine) ≡ true → r ≡ bitOr those (2 ^ a)
+pub paired-with : (k a mine : ℕ) {those r : ℕ} → a < k → Set those (λ e. bit mine e && ltb e k) → some k (bit mine) ≡ true → r ≡ bitOr those (2 ^ a)
     → Set r (λ e. ltb e k && (bit mine e || (eqb e a && some k (bit mine))))
-seen-with k a mine {those} l s t h = record {
+paired-with k a mine {those} l s t h = record {
   has = λ e.
       ap (λ (x : ℕ). bit x e) h ∙ bit-with those a e ∙ ap (λ b. b || eqb e a) (s .has e)
       ∙ mixed (bit mine e) (ltb e k) (eqb e a) (λ q. lt-ltb e k (subst (λ (m : ℕ). m < k) (sym (eqb-true e a q)) l))
@@ -135,8 +135,8 @@ seen-with k a mine {those} l s t h = record {
     mixed false false true f = sym (f refl)
     mixed false false false f = refl
 
-pub seen-none : (k a mine : ℕ) → some k (bit mine) ≡ false → Set 0 (λ e. ltb e k && (bit mine e || (eqb e a && some k (bit mine))))
-seen-none k a mine h = record {
+pub paired-none : (k a mine : ℕ) → some k (bit mine) ≡ false → Set 0 (λ e. ltb e k && (bit mine e || (eqb e a && some k (bit mine))))
+paired-none k a mine h = record {
   has = λ e. bit-zero e ∙ sym (is-false (λ t.
       let l = and-l (ltb e k) (bit mine e || (eqb e a && some k (bit mine))) t in
       true≢false (or-e (bit mine e) (eqb e a && some k (bit mine))

@@ -10,9 +10,9 @@ use Rattle.finite.specs.Tests.{all, some, _⇒_}
 abbrev pub Relation : Type 0
 Relation = ℕ → ℕ → ℕ → Bool
 
--- e is in V(p), of k events
-unfoldable pub sees : ℕ → (known : Relation) → ℕ → ℕ → Bool
-sees k known p e = some k λ x. known p e x || known p x e
+-- e stands in some pair of p's order, of k events
+unfoldable pub pairs : ℕ → (known : Relation) → ℕ → ℕ → Bool
+pairs k known p e = some k λ x. known p e x || known p x e
 
 -- load l must read from store s, of k events
 unfoldable pub mustRead : (k : ℕ) (isLoad : ℕ → Bool) (storeFor : ℕ → ℕ → Bool) (thread : ℕ → ℕ) (known asked : Relation) → ℕ → ℕ → Bool

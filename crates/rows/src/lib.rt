@@ -10,7 +10,7 @@ ghost use Rattle.finite.specs.Tests.{some};
 ghost use Rattle.bits.specs.Bit.{bit, width};
 ghost use Rattle.model.specs.Limits.{mostThreads, mostAddresses, mostEvents};
 ghost use Rattle.rows.specs.Sets.{Set, Sets, rowIn, orderIn, setIn};
-ghost use Rattle.rows.specs.May.{sees};
+ghost use Rattle.rows.specs.May.{pairs};
 use case::Case;
 
 // The row of event a in thread p's order.
@@ -183,7 +183,7 @@ pub fn any(set: u64, k: usize) -> bool
 }
 
 // The events of a's row and, if there are any, a.
-fn seen_one(mine: u64, k: usize, a: usize) -> u64
+fn paired_one(mine: u64, k: usize, a: usize) -> u64
     requires { ⌜ k ≤ mostEvents ⌝ }
     requires { ⌜ a < k ⌝ }
     ensures { λ r. ⌜ Set r (λ e. ltb e k && (bit mine e || (eqb e a && some k (bit mine)))) ⌝ }
@@ -195,15 +195,15 @@ fn seen_one(mine: u64, k: usize, a: usize) -> u64
     }
 }
 
-// The events in V(p).
-pub fn seen(rows: &[u64; Case::MOST_THREADS * Case::MOST_EVENTS], k: usize, p: usize) -> u64
+// The events that stand in some pair of p's order.
+pub fn paired(rows: &[u64; Case::MOST_THREADS * Case::MOST_EVENTS], k: usize, p: usize) -> u64
     requires { ⌜ k ≤ mostEvents ⌝ }
     requires { ⌜ p < mostThreads ⌝ }
-    ensures { λ r. ⌜ Set r (λ e. ltb e k && sees k (orderIn (now (rows .entry))) p e) ⌝ }
+    ensures { λ r. ⌜ Set r (λ e. ltb e k && pairs k (orderIn (now (rows .entry))) p e) ⌝ }
 {
     let mut found: u64 = 0;
     for a in 0..k {
-        found = found | seen_one(row(rows, p, a), k, a);
+        found = found | paired_one(row(rows, p, a), k, a);
     }
     found
 }

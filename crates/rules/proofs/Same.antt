@@ -18,16 +18,16 @@ use Rattle.bits.proofs.Bits.{bit-or}
 use Rattle.model.specs.Limits.{mostThreads, mostAddresses, mostEvents}
 use Rattle.model.specs.Case.{bare, load, store, sync}
 use Rattle.model.specs.Record.{storeTo}
-use Rattle.model.specs.Rules.{Model, PPCw, PPCs, first, kind, thread, address, value, initial, isLoad, isStore, isBarrier, of, oneAddress, storeFor, before, everywhere, written, seen, readsFrom, judged, orElse, rule11, rule12, rule13, rule14, rule15, rule16, rule17, rule18, verdict}
+use Rattle.model.specs.Rules.{Model, PPCw, PPCs, first, kind, thread, address, value, initial, isLoad, isStore, isBarrier, of, oneAddress, storeFor, before, everywhere, written, paired, seen, readsFrom, judged, orElse, rule11, rule12, rule13, rule14, rule15, rule16, rule17, rule18, verdict}
 use Rattle.case.specs.declared.Case.{Case as Held}
 use Rattle.case.specs.Held.{caseOf}
 use Rattle.case.specs.Sound.{Sound}
 use Rattle.rows.specs.Sets.{Set, Sets, orderIn, setIn, storeIn}
-use Rattle.rows.specs.May.{sees, mustRead, may11, may12, may13, may14, may15, may16, may17, may18}
+use Rattle.rows.specs.May.{pairs, mustRead, may11, may12, may13, may14, may15, may16, may17, may18}
 use Rattle.orders.specs.Parts.{writesIn, writtenIn}
 use Rattle.values.specs.Parts.{equalIn, threadIn}
 use Rattle.rules.specs.declared.EventSets.{EventSets}
-use Rattle.rules.specs.Verdict.{Agrees, modelOf, judgedIn, freshIn, orderVerdict, valueVerdict, barrierVerdict}
+use Rattle.rules.specs.Verdict.{Agrees, modelOf, seenIn, judgedIn, freshIn, orderVerdict, valueVerdict, barrierVerdict}
 use Rattle.rules.proofs.Means.{kind-in, thread-in, address-in, value-in, initial-in, before-in, load-in, store-in, barrier-in, of-in, load-full, store-full, full-kind, not-not}
 
 -- under a test
@@ -146,17 +146,20 @@ module _ (c : Held) (g : EventSets) (sound : Sound c) (agree : Agrees (caseOf c)
   load-address a la h =
       lt-of-lt-of-le (sound .address a la (load-kind a la (sym (agree .load a la) ∙ h))) (sound .addresses-most)
 
-  sees-in : (p : ℕ) → p < c .threads → (e : ℕ) → e < c .events → sees (c .events) (orderIn (c .rows)) p e ≡ seen (caseOf c) p e
-  unfolding sees seen caseOf
-  sees-in p lp e le =
+  paired-in : (p : ℕ) → p < c .threads → (e : ℕ) → e < c .events → pairs (c .events) (orderIn (c .rows)) p e ≡ paired (caseOf c) p e
+  unfolding pairs paired caseOf
+  paired-in p lp e le =
       some-same (c .events) _ _ (λ x lx. ap₂ (λ s t. s || t) (before-in c p lp e le x lx) (before-in c p lp x lx e le))
 
   module _ {fresh : ℕ} {those judge : List ℕ} (strong : Bool)
       (f : Set fresh (λ l. ltb l (c .events) && freshIn (g .loads) (c .value) (c .address) (c .initial) l))
-      (v : Sets (c .threads) those (λ p e. ltb e (c .events) && sees (c .events) (orderIn (c .rows)) p e))
+      (v : Sets (c .threads) those (seenIn (c .events) (c .rows) (g .own)))
       (j : Sets (c .threads) judge (judgedIn strong (g .loads) (g .own) those)) where
     seen-in : (p : ℕ) → p < c .threads → (e : ℕ) → e < c .events → setIn those p e ≡ seen (caseOf c) p e
-    seen-in p lp e le = v .has p lp e ∙ ap (λ t. t && sees (c .events) (orderIn (c .rows)) p e) (lt-ltb e (c .events) le) ∙ sees-in p lp e le
+    unfolding seen caseOf
+    seen-in p lp e le =
+        v .has p lp e ∙ ap₂ (λ s t. (s && pairs (c .events) (orderIn (c .rows)) p e) || t) (lt-ltb e (c .events) le) (agree .own p lp e le)
+        ∙ ap (λ s. s || of (caseOf c) p e) (paired-in p lp e le)
 
     judged-in : (p : ℕ) → p < c .threads → (l : ℕ) → l < c .events → setIn judge p l ≡ judged (caseOf c) (modelOf strong) p l
     unfolding judged caseOf

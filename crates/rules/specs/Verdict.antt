@@ -2,14 +2,15 @@
 -- Assumes nothing.
 use Prim.Native.Nat.{ℕ, _<_}
 use mathlib.Core.Path.{_≡_}
-use mathlib.Core.Bool.{Bool, true, false, _&&_}
+use mathlib.Core.Bool.{Bool, true, false, _&&_, _||_}
 use mathlib.Core.List.{List}
 use lib.Dec.{eqb, ltb}
 use lib.ListN.{getD}
 use Rattle.bits.specs.Bit.{bit}
 use Rattle.model.specs.Case.{Case}
 use Rattle.model.specs.Rules.{Model, PPCw, PPCs, of, isLoad, isStore, isBarrier, oneAddress, orElse, rule11, rule12, rule13, rule14, rule15, rule16, rule17, rule18}
-use Rattle.rows.specs.Sets.{setIn}
+use Rattle.rows.specs.Sets.{orderIn, setIn}
+use Rattle.rows.specs.May.{pairs}
 use Rattle.rules.specs.declared.EventSets.{EventSets}
 
 -- PPCs or PPCw
@@ -24,6 +25,10 @@ pub record Agrees (c : Case) (g : EventSets) : Type 0 where
   pub store : (e : ℕ) → e < c .k → bit (g .stores) e ≡ isStore c e
   pub barrier : (e : ℕ) → e < c .k → bit (g .syncs) e ≡ isBarrier c e
   pub partner : (a : ℕ) → a < c .k → (b : ℕ) → b < c .k → setIn (g .partners) a b ≡ oneAddress c a b
+
+-- by thread, of k events: what stands in some pair of its order, and its own
+abbrev pub seenIn : (k : ℕ) (known own : List ℕ) → ℕ → ℕ → Bool
+seenIn k known own p e = (ltb e k && pairs k (orderIn known) p e) || setIn own p e
 
 -- the loads of those seen, if strong, or else of its own
 abbrev pub chosenIn : Bool → (loads own seen : ℕ) → ℕ → Bool

@@ -10,10 +10,9 @@ ghost use Rattle.model.specs.Limits.{mostThreads, mostAddresses, mostEvents};
 ghost use Rattle.model.specs.Rules.{verdict as verdictOf, finals as finalsOf};
 ghost use Rattle.case.specs.Held.{caseOf};
 ghost use Rattle.case.specs.Sound.{Sound};
-ghost use Rattle.rows.specs.Sets.{Set, Sets, orderIn};
-ghost use Rattle.rows.specs.May.{sees};
+ghost use Rattle.rows.specs.Sets.{Set, Sets};
 ghost use Rattle.rules.specs.Finals.{storedIn, valueIn, lastIn, finalIn};
-ghost use Rattle.rules.specs.Verdict.{Agrees, modelOf, chosenIn, judgedIn, freshIn, orderVerdict, valueVerdict, barrierVerdict};
+ghost use Rattle.rules.specs.Verdict.{Agrees, modelOf, seenIn, chosenIn, judgedIn, freshIn, orderVerdict, valueVerdict, barrierVerdict};
 use case::Case;
 
 // The sets of a case's events: those of each thread; loads, stores and syncs; and by event those that use its address.
@@ -46,19 +45,20 @@ pub fn gather(c: Case) -> EventSets
     }
 }
 
-// V(p) by thread.
+// V(p) by thread: the events of its pairs, and its own.
 fn seen_sets(
     known: &[u64; Case::MOST_THREADS * Case::MOST_EVENTS],
+    own: &[u64; Case::MOST_THREADS],
     n: usize,
     k: usize,
 ) -> [u64; Case::MOST_THREADS]
     requires { ⌜ n ≤ mostThreads ⌝ }
     requires { ⌜ k ≤ mostEvents ⌝ }
-    ensures { λ r. ⌜ Sets n r (λ p e. ltb e k && sees k (orderIn (now (known .entry))) p e) ⌝ }
+    ensures { λ r. ⌜ Sets n r (seenIn k (now (known .entry)) (now (own .entry))) ⌝ }
 {
     let mut out = [0u64; Case::MOST_THREADS];
     for p in 0..n {
-        out[p] = rows::seen(known, k, p);
+        out[p] = rows::paired(known, k, p) | own[p];
     }
     out
 }
@@ -158,7 +158,7 @@ fn broken_value(c: Case, g: EventSets, strong: bool) -> u8
     let n = c.threads;
     let k = c.events;
     let fresh = fresh_loads(g.loads, &c.value, &c.address, &c.initial, k);
-    let seen = seen_sets(&c.rows, n, k);
+    let seen = seen_sets(&c.rows, &g.own, n, k);
     let judged = judged_sets(strong, g.loads, &g.own, &seen, n);
     if !values::rule15(&judged, fresh, g.stores, &g.partners, &c.rows, n, k) {
         return 15;

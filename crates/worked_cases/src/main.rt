@@ -1,5 +1,5 @@
-// Runs paper 01's worked cases ("Cases on the bench") through the compiled library and prints a line for each: the answers under
-// PPCw and PPCs, and whether the calls on the case that was read agree with those on the record.
+// Runs the worked cases of paper 01 ("Cases on the bench") and of paper 02 through the compiled library and prints a line for
+// each: the answers under PPCw and PPCs, and whether the calls on the case that was read agree with those on the record.
 mod cases;
 mod records;
 mod text;
@@ -50,6 +50,7 @@ fn orders_and_values() {
         b"Stores in one order, write order reversed",
         &records::REVERSED_WRITES,
     );
+    judged(b"One load of 2, initial value 0", &records::LONE_LOAD);
 }
 
 fn known_tests() {

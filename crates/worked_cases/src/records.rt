@@ -1,4 +1,4 @@
-// The records of paper 01's worked cases. A part to a line, long ones on several: edition, n, m and initial values; k and the
+// The records of the papers' worked cases. A part to a line, long ones on several: edition, n, m and initial values; k and the
 // events; write orders, if there are stores; each thread's order, its count first; the name's length and the name.
 
 // The small record: one thread stores 1 and loads 1.
@@ -49,6 +49,12 @@ pub const REVERSED_WRITES: [u8; 25] = *b"\x01\x01\x01\x00\
     \x01\x00\
     \x01\x00\x01\
     \x06stores";
+
+// One load of 2 and nothing else, initial value 0.
+pub const LONE_LOAD: [u8; 11] = *b"\x01\x01\x01\x00\
+    \x01\x00\x00\x00\x02\
+    \x00\
+    \x00";
 
 // Dekker (000, 2.1).
 pub const DEKKER: [u8; 77] = *b"\x01\x02\x02\x00\x00\

@@ -51,7 +51,21 @@ fn verdict_answer(case: &Case, model: u64, length: usize) -> Answer {
 
 /// The lowest broken rule of a case without fault, or 0.
 pub fn verdict(case: &Case, model: u64) -> u32 {
-    let judged = Judged { case, model };
+    lowest_broken(case, model, true)
+}
+
+/// The same where a thread sees no more than the events of its pairs, its own ones too: V(p) as
+/// source document 000 prints it.
+pub fn printed_verdict(case: &Case, model: u64) -> u32 {
+    lowest_broken(case, model, false)
+}
+
+fn lowest_broken(case: &Case, model: u64, sees_own: bool) -> u32 {
+    let judged = Judged {
+        case,
+        model,
+        sees_own,
+    };
     let mut rules = RULES;
     rules.find(|&rule| !judged.holds(rule)).unwrap_or(0)
 }
@@ -71,6 +85,8 @@ pub fn finals(case: &Case) -> [u32; ADDRESSES] {
 struct Judged<'a> {
     case: &'a Case,
     model: u64,
+    /// Whether a thread sees all its own events, paired or not.
+    sees_own: bool,
 }
 
 impl Judged<'_> {
@@ -111,10 +127,11 @@ impl Judged<'_> {
         self.events().filter(move |&e| self.event(e).thread == p)
     }
 
-    /// Whether e stands in some pair of p's order.
+    /// Whether e is in V(p): it stands in some pair of p's order or is an event of thread p.
     fn sees(&self, p: usize, e: usize) -> bool {
         let mut others = self.events();
-        others.any(|d| self.before(p, e, d) || self.before(p, d, e))
+        self.sees_own && self.event(e).thread == p
+            || others.any(|d| self.before(p, e, d) || self.before(p, d, e))
     }
 
     fn stores_to(&self, address: usize) -> impl Iterator<Item = usize> + '_ {

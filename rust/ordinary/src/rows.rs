@@ -228,7 +228,7 @@ struct Judged<'a> {
     model: u64,
     /// For each thread and event, the set of those before it.
     before: [Rows; THREADS],
-    /// For each thread, the events in some pair of its order.
+    /// For each thread, the events in some pair of its order and its own.
     seen: [Set; THREADS],
     own: [Set; THREADS],
     stores_to: [Set; ADDRESSES],
@@ -273,6 +273,7 @@ impl<'a> Judged<'a> {
     }
 
     fn turn(&mut self, p: usize) {
+        self.seen[p] = self.own[p];
         for a in 0..self.case.count {
             let row = self.case.after[p][a];
             if row != 0 {

@@ -10,7 +10,7 @@ use ordinary::{read, text, write, Case, Event, Order};
 const SMALL: [u8; 19] = [1, 1, 1, 0, 2, 1, 0, 0, 1, 0, 0, 0, 1, 0, 1, 0, 1, 1, 0x61];
 
 /// Each example by its name: the numbers under PPCw and PPCs.
-const ANSWERS: [(&str, [u32; 2]); 13] = [
+const ANSWERS: [(&str, [u32; 2]); 14] = [
     ("small", [0, 0]),
     ("load-0", [16, 16]),
     ("load-2", [16, 16]),
@@ -24,6 +24,7 @@ const ANSWERS: [(&str, [u32; 2]); 13] = [
     ("message-unseen", [15, 15]),
     ("cc", [17, 17]),
     ("iriw", [0, 15]),
+    ("lone-load", [15, 15]),
 ];
 
 fn example(name: &str) -> Case {

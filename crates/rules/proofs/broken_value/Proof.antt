@@ -14,24 +14,32 @@ broken-value-spec =
     tie.close
     (tie.spec
     (λ c κs.
-    let s = c .before .before .before .before .args in
-    let z = c .before .before .before .before .pre in
-    (z .0 .events-most, load-address (s .t1) (s .t2) (z .0) (z .1)))
+    let b = c .before .before .before .before in
+    let s = b .args in
+    (b .pre .0 .events-most, load-address (s .t1) (s .t2) (b .pre .0) (b .pre .1)))
     (λ c κs. search needs)
     (λ c κs. search needs)
     (λ c κs. search needs)
     (λ c.
-    let s = c .before .before .before .before .before .before .before .before .before .before .before .before .before .before .before .before .before .before .before .args in
-    let z = c .before .before .before .before .before .before .before .before .before .before .before .before .before .before .before .before .before .before .before .pre in
-    first-fails (rule15 (caseOf (s .t1)) (modelOf (s .strong))) 15 (orElse (rule16 (caseOf (s .t1)) (modelOf (s .strong))) 16 0) (broken (c .before .rule15 .ensures) (same15 (s .t1) (s .t2) (z .0) (z .1) (s .strong) (c .before .before .before .before .before .before .before .before .before .before .before .before .before .before .fresh-loads .ensures) (c .before .before .before .before .before .before .before .before .before .before .before .seen-sets .ensures) (c .before .before .before .before .before .before .before .judged-sets .ensures)) (c .if1 .taken)))
-    (λ c κs. (c .before .before .before .before .before .before .before .before .before .before .before .before .before .before .before .before .before .before .before .before .before .before .before .before .before .before .pre .0 .threads-most, c .before .before .before .before .before .before .before .before .before .before .before .before .before .before .before .before .before .before .before .before .before .before .before .before .before .before .pre .0 .events-most))
+    let j = c .before .before .before .before .before .before .before in
+    let s = j .before .before .before .before .before .before .before .before .before .before .before .before .before .before .args in
+    let z = j .before .before .before .before .before .before .before .before .before .before .before .before .before .before .pre in
+    first-fails (rule15 (caseOf (s .t1)) (modelOf (s .strong))) 15 (orElse (rule16 (caseOf (s .t1)) (modelOf (s .strong))) 16 0)
+    (broken (c .before .rule15 .ensures) (same15 (s .t1) (s .t2) (z .0) (z .1) (s .strong) (j .before .before .before .before .before .before .before .before .before .fresh-loads .ensures) (j .before .before .before .before .seen-sets .ensures) (j .judged-sets .ensures)) (c .if1 .taken)))
+    (λ c κs. let z = c .before .before .before .before .before .before .before .before .before .before .before .before .before .before .before .before .before .before .before .before .before .before .before .before .before .before .before .before .pre .0 in (z .threads-most, z .events-most))
     (λ c.
-    let s = c .before .before .before .before .before .before .before .before .before .before .before .before .before .before .before .before .before .before .before .before .before .before .before .before .before .before .before .before .args in
-    let z = c .before .before .before .before .before .before .before .before .before .before .before .before .before .before .before .before .before .before .before .before .before .before .before .before .before .before .before .before .pre in
-    first-fails (rule16 (caseOf (s .t1)) (modelOf (s .strong))) 16 0 (broken (c .before .rule16 .ensures) (same16 (s .t1) (s .t2) (z .0) (z .1) (s .strong) (c .before .before .before .before .before .before .before .before .before .before .before .before .before .before .before .before .before .before .before .before .before .before .before .fresh-loads .ensures) (c .before .before .before .before .before .before .before .before .before .before .before .before .before .before .before .before .before .before .before .before .seen-sets .ensures) (c .before .before .before .before .before .before .before .before .before .before .before .before .before .before .before .before .judged-sets .ensures)) (c .if2 .taken))
-    ∙ first-holds (rule15 (caseOf (s .t1)) (modelOf (s .strong))) 15 (orElse (rule16 (caseOf (s .t1)) (modelOf (s .strong))) 16 0) (kept (c .before .before .before .before .before .before .before .before .before .before .rule15 .ensures) (same15 (s .t1) (s .t2) (z .0) (z .1) (s .strong) (c .before .before .before .before .before .before .before .before .before .before .before .before .before .before .before .before .before .before .before .before .before .before .before .fresh-loads .ensures) (c .before .before .before .before .before .before .before .before .before .before .before .before .before .before .before .before .before .before .before .before .seen-sets .ensures) (c .before .before .before .before .before .before .before .before .before .before .before .before .before .before .before .before .judged-sets .ensures)) (c .before .before .before .before .before .before .before .before .before .if1 .left)))
+    let j = c .before .before .before .before .before .before .before .before .before .before .before .before .before .before .before .before in
+    let s = j .before .before .before .before .before .before .before .before .before .before .before .before .before .before .args in
+    let z = j .before .before .before .before .before .before .before .before .before .before .before .before .before .before .pre in
+    first-fails (rule16 (caseOf (s .t1)) (modelOf (s .strong))) 16 0
+    (broken (c .before .rule16 .ensures) (same16 (s .t1) (s .t2) (z .0) (z .1) (s .strong) (j .before .before .before .before .before .before .before .before .before .fresh-loads .ensures) (j .before .before .before .before .seen-sets .ensures) (j .judged-sets .ensures)) (c .if2 .taken))
+    ∙ first-holds (rule15 (caseOf (s .t1)) (modelOf (s .strong))) 15 (orElse (rule16 (caseOf (s .t1)) (modelOf (s .strong))) 16 0)
+    (kept (c .before .before .before .before .before .before .before .before .before .before .rule15 .ensures) (same15 (s .t1) (s .t2) (z .0) (z .1) (s .strong) (j .before .before .before .before .before .before .before .before .before .fresh-loads .ensures) (j .before .before .before .before .seen-sets .ensures) (j .judged-sets .ensures)) (c .before .before .before .before .before .before .before .before .before .if1 .left)))
     (λ c.
-    let s = c .before .before .before .before .before .before .before .before .before .before .before .before .before .before .before .before .before .before .before .before .before .before .before .before .before .before .before .before .args in
-    let z = c .before .before .before .before .before .before .before .before .before .before .before .before .before .before .before .before .before .before .before .before .before .before .before .before .before .before .before .before .pre in
-    first-holds (rule16 (caseOf (s .t1)) (modelOf (s .strong))) 16 0 (kept (c .before .rule16 .ensures) (same16 (s .t1) (s .t2) (z .0) (z .1) (s .strong) (c .before .before .before .before .before .before .before .before .before .before .before .before .before .before .before .before .before .before .before .before .before .before .before .fresh-loads .ensures) (c .before .before .before .before .before .before .before .before .before .before .before .before .before .before .before .before .before .before .before .before .seen-sets .ensures) (c .before .before .before .before .before .before .before .before .before .before .before .before .before .before .before .before .judged-sets .ensures)) (c .if2 .left))
-    ∙ first-holds (rule15 (caseOf (s .t1)) (modelOf (s .strong))) 15 (orElse (rule16 (caseOf (s .t1)) (modelOf (s .strong))) 16 0) (kept (c .before .before .before .before .before .before .before .before .before .before .rule15 .ensures) (same15 (s .t1) (s .t2) (z .0) (z .1) (s .strong) (c .before .before .before .before .before .before .before .before .before .before .before .before .before .before .before .before .before .before .before .before .before .before .before .fresh-loads .ensures) (c .before .before .before .before .before .before .before .before .before .before .before .before .before .before .before .before .before .before .before .before .seen-sets .ensures) (c .before .before .before .before .before .before .before .before .before .before .before .before .before .before .before .before .judged-sets .ensures)) (c .before .before .before .before .before .before .before .before .before .if1 .left))))
+    let j = c .before .before .before .before .before .before .before .before .before .before .before .before .before .before .before .before in
+    let s = j .before .before .before .before .before .before .before .before .before .before .before .before .before .before .args in
+    let z = j .before .before .before .before .before .before .before .before .before .before .before .before .before .before .pre in
+    first-holds (rule16 (caseOf (s .t1)) (modelOf (s .strong))) 16 0
+    (kept (c .before .rule16 .ensures) (same16 (s .t1) (s .t2) (z .0) (z .1) (s .strong) (j .before .before .before .before .before .before .before .before .before .fresh-loads .ensures) (j .before .before .before .before .seen-sets .ensures) (j .judged-sets .ensures)) (c .if2 .left))
+    ∙ first-holds (rule15 (caseOf (s .t1)) (modelOf (s .strong))) 15 (orElse (rule16 (caseOf (s .t1)) (modelOf (s .strong))) 16 0)
+    (kept (c .before .before .before .before .before .before .before .before .before .before .rule15 .ensures) (same15 (s .t1) (s .t2) (z .0) (z .1) (s .strong) (j .before .before .before .before .before .before .before .before .before .fresh-loads .ensures) (j .before .before .before .before .seen-sets .ensures) (j .judged-sets .ensures)) (c .before .before .before .before .before .before .before .before .before .if1 .left))))

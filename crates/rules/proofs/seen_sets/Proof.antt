@@ -2,19 +2,18 @@
 use Prim.Native.Nat.{_-_}
 use borrow.Author.Needs.{needs}
 use native.Mathlib.Omega.{arith}
-use mathlib.Core.Bool.{_&&_}
-use lib.Dec.{ltb}
-use Rattle.rows.specs.Sets.{orderIn}
+use mathlib.Core.Path.{refl}
+use Rattle.rows.proofs.SetLaws.{either}
 use Rattle.rows.proofs.Loops.{Filled, unfilled, fills, filled}
-use Rattle.rows.specs.May.{sees}
+use Rattle.rules.specs.Verdict.{seenIn}
 use Rattle.rules.proofs.seen_sets.Statement.{statement}
 use Rattle.rules.proofs.seen_sets.Tie as tie
 
 abbrev Inv-loop : tie.InvT-loop
-Inv-loop known n k out₀ p₀ out p = Filled n (λ p e. ltb e k && sees k (orderIn known) p e) p out
+Inv-loop known own n k out₀ p₀ out p = Filled n (seenIn k known own) p out
 
 abbrev μ-loop : tie.MeasureT-loop
-μ-loop known n k out₀ p₀ out p = n - p
+μ-loop known own n k out₀ p₀ out p = n - p
 
 pub seen-sets-spec : {M : Type 1} → statement M
 seen-sets-spec =
@@ -26,7 +25,9 @@ seen-sets-spec =
     (λ c κs. search needs)
     (λ c. search needs)
     (λ c. search needs)
+    (λ c. search needs)
+    (λ c. search needs)
     (λ c. omega arith)
     (λ c. omega arith)
-    (λ c. fills (c .before .before .loop .inv) (c .before .loop-test .taken) (c .seen .ensures))
+    (λ c. fills (c .before .before .before .loop .inv) (c .before .before .loop-test .taken) (either (c .before .paired .ensures) (record { has = λ e. refl })))
     (λ c. filled (c .before .loop .inv) (c .loop-test .left)))

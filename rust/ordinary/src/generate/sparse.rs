@@ -106,8 +106,9 @@ impl Filling {
         for p in 0..case.threads() {
             for l in loads(case) {
                 let pairs = case.orders[p].pairs(count);
-                let sees = |e| pairs.iter().any(|&(a, b)| a == e || b == e);
-                if case.events[l].thread != p && !sees(l) {
+                let own = |e: usize| case.events[e].thread == p;
+                let sees = |e| own(e) || pairs.iter().any(|&(a, b)| a == e || b == e);
+                if !sees(l) {
                     continue;
                 }
                 let source = source_in(case, &self.sequence, l);

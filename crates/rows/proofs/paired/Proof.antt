@@ -1,4 +1,4 @@
--- `rows::seen` meets its contract. Assumes nothing.
+-- `rows::paired` meets its contract. Assumes nothing.
 use Prim.Native.Nat.{ℕ, _-_}
 use borrow.Author.Needs.{needs}
 use native.Mathlib.Omega.{arith}
@@ -9,9 +9,9 @@ use Rattle.finite.specs.Tests.{some}
 use Rattle.rows.specs.Sets.{Set, orderIn}
 use Rattle.bits.specs.Bit.{bit}
 use Rattle.rows.proofs.Loops.{United, empty, joins, united}
-use Rattle.rows.proofs.SetLaws.{seen-set}
-use Rattle.rows.proofs.seen.Statement.{statement}
-use Rattle.rows.proofs.seen.Tie as tie
+use Rattle.rows.proofs.SetLaws.{paired-set}
+use Rattle.rows.proofs.paired.Statement.{statement}
+use Rattle.rows.proofs.paired.Tie as tie
 
 abbrev Inv-loop : tie.InvT-loop
 Inv-loop rows k p found₀ a₀ found a = United k (λ a e. ltb e k && (orderIn rows p a e || (eqb e a && some k (orderIn rows p a)))) a found
@@ -19,8 +19,8 @@ Inv-loop rows k p found₀ a₀ found a = United k (λ a e. ltb e k && (orderIn 
 abbrev μ-loop : tie.MeasureT-loop
 μ-loop rows k p found₀ a₀ found a = k - a
 
-pub seen-spec : {M : Type 1} → statement M
-seen-spec =
+pub paired-spec : {M : Type 1} → statement M
+paired-spec =
     tie.close
     (tie.spec
     Inv-loop
@@ -34,7 +34,7 @@ seen-spec =
     let w = c .before .before .before in
     let s = w .before .args in
     joins (w .loop .inv) (c .before .before .loop-test .taken)
-    (subst (λ (m : ℕ). Set (c .seen-one .result) (λ e. ltb e (s .k) && (bit m e || (eqb e (w .loop .a) && some (s .k) (bit m))))) (c .before .row .ensures) (c .seen-one .ensures)))
+    (subst (λ (m : ℕ). Set (c .paired-one .result) (λ e. ltb e (s .k) && (bit m e || (eqb e (w .loop .a) && some (s .k) (bit m))))) (c .before .row .ensures) (c .paired-one .ensures)))
     (λ c.
     let s = c .before .before .args in
-    seen-set (s .k) (orderIn (s .rows .now)) (s .p) (united (c .before .loop .inv) (c .loop-test .left))))
+    paired-set (s .k) (orderIn (s .rows .now)) (s .p) (united (c .before .loop .inv) (c .loop-test .left))))
