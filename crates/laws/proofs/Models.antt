@@ -11,8 +11,8 @@ use Rattle.finite.proofs.Tests.{and-l, and-r, and-i, imp-e, imp-i, or-r, all-ge
 use Rattle.number.specs.Reader.{Out, stop, next}
 use Rattle.model.specs.Case.{Case}
 use Rattle.model.specs.Record.{read}
-use Rattle.model.specs.Rules.{Model, PPCw, PPCs, orElse, isLoad, of, paired, seen, judged}
-use Rattle.model.specs.Rules.{rule11, rule12, rule13, rule14, rule15, rule16, rule17, rule18, verdict}
+use Rattle.model.specs.Rules.{PPCw, PPCs, orElse, isLoad, of, paired, seen, judged}
+use Rattle.model.specs.Rules.{rule11, rule12, rule13, rule14, rule15, rule16, verdict}
 use Rattle.model.specs.Answers.{judgement, judgeOut, handed, judge, judgeCase}
 
 -- what is asked of more loads, or more of each, is asked of less

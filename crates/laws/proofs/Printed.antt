@@ -1,11 +1,11 @@
 -- What V(p)'s own events (02 (i)) move, beside V(p) as source document 000 prints it: nothing under PPCw, and under PPCs only
 -- to 15 or 16.
 -- Assumes nothing.
-use Prim.Native.Nat.{ℕ, zero, suc, _<_}
+use Prim.Native.Nat.{ℕ, _<_}
 use native.Mathlib.Omega.{arith}
 use mathlib.Core.Path.{_≡_, refl, sym, ap, ap₂, _∙_}
 use mathlib.Core.Bool.{Bool, true, false, not, _&&_, _||_}
-use lib.Dec.{T, eqb}
+use lib.Dec.{eqb}
 use borrow.Author.Tests.{eqb-true}
 use Rattle.finite.specs.Tests.{all, some, _⇒_}
 use Rattle.finite.proofs.Tests.{iff, and-l, and-r, and-i, imp-e, imp-i, or-l, or-r, or-e, is-false, T-true, all-get, all-make, all-same, some-make, imp-cong}
