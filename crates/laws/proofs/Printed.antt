@@ -43,6 +43,11 @@ module _ (c : Case) where
       orElse (rule11 c) 11 (orElse (rule12 c) 12 (orElse (rule13 c) 13 (orElse (rule14 c) 14
       (orElse (printed15 w) 15 (orElse (printed16 w) 16 (orElse (rule17 c) 17 (orElse (rule18 c) 18 0)))))))
 
+  -- what is asked of an event of p's pairs is asked of one in V(p)
+  paired-seen : (x : Bool) (p e : ℕ) → (x && paired c p e) ≡ true → (x && seen c p e) ≡ true
+  unfolding seen
+  paired-seen x p e h = and-i x (seen c p e) (and-l x (paired c p e) h) (or-l (paired c p e) (of c p e) (and-r x (paired c p e) h))
+
   -- ---- under PPCw
 
   -- a load is no store
@@ -74,9 +79,7 @@ module _ (c : Case) where
       (or-e (paired c p s) (of c p s) (λ u. u)
       (own-paired t p lp l ll (and-l (isLoad c l) (of c p l) j) (and-r (isLoad c l) (of c p l) j) s ls (and-l (isStore c s) (oneAddress c l s) f))
       (and-r (storeFor c l s) (seen c p s) h)))
-      (λ h.
-      and-i (storeFor c l s) (seen c p s) (and-l (storeFor c l s) (paired c p s) h)
-      (or-l (paired c p s) (of c p s) (and-r (storeFor c l s) (paired c p s) h)))
+      (paired-seen (storeFor c l s) p s)
 
   weak16 : rule12 c ≡ true → rule16 c PPCw ≡ printed16 PPCw
   unfolding rule16 judged
@@ -100,21 +103,18 @@ module _ (c : Case) where
   -- ---- under PPCs
 
   more-judged : (p l : ℕ) → printedJudged PPCs p l ≡ true → judged c PPCs p l ≡ true
-  unfolding judged seen
-  more-judged p l h =
-      and-i (isLoad c l) (seen c p l) (and-l (isLoad c l) (paired c p l) h) (or-l (paired c p l) (of c p l) (and-r (isLoad c l) (paired c p l) h))
+  unfolding judged
+  more-judged p l = paired-seen (isLoad c l) p l
 
   strong15 : rule15 c PPCs ≡ true → printed15 PPCs ≡ true
   unfolding rule15
   strong15 = fewer n k more-judged (λ p l u. u)
 
   strong16 : rule16 c PPCs ≡ true → printed16 PPCs ≡ true
-  unfolding rule16 seen
+  unfolding rule16
   strong16 =
       fewer n k more-judged (λ p l t. all-make k _ (λ s ls. imp-i (storeFor c l s && paired c p s) (latest p l s) (λ h.
-      imp-e (storeFor c l s && seen c p s) (latest p l s) (all-get k _ t s ls)
-      (and-i (storeFor c l s) (seen c p s) (and-l (storeFor c l s) (paired c p s) h)
-      (or-l (paired c p s) (of c p s) (and-r (storeFor c l s) (paired c p s) h))))))
+      imp-e (storeFor c l s && seen c p s) (latest p l s) (all-get k _ t s ls) (paired-seen (storeFor c l s) p s h))))
 
   pub strong-moves : (verdict c PPCs ≡ 15 → ⊥) → (verdict c PPCs ≡ 16 → ⊥) → verdict c PPCs ≡ printedVerdict PPCs
   unfolding verdict

@@ -54,8 +54,7 @@ pub fn verdict(case: &Case, model: u64) -> u32 {
     lowest_broken(case, model, true)
 }
 
-/// The same where a thread sees no more than the events of its pairs, its own ones too: V(p) as
-/// source document 000 prints it.
+/// The same if V(p) held only the events of p's pairs, as source document 000 prints it.
 pub fn printed_verdict(case: &Case, model: u64) -> u32 {
     lowest_broken(case, model, false)
 }
