@@ -11,13 +11,13 @@ use lib.Bits.{bitAnd, bitOr}
 use borrow.Author.Tests.{eqb-true, eq-eqb, ne-eqb, ltb-true, lt-ltb, ltb-false}
 use Rattle.finite.specs.Tests.{all, some, count, tick, _⇒_}
 use Rattle.finite.specs.Lists.{table}
-use Rattle.finite.proofs.Tests.{iff, and-l, and-r, and-i, or-l, or-r, or-e, is-false, all-get, all-make, all-same, all-swap, all-not, imp-all, imp-e, imp-i, some-make, some-none, count-same, and-true, eqb-sym}
+use Rattle.finite.proofs.Tests.{iff, and-l, and-r, and-i, or-l, or-r, or-e, is-false, all-get, all-make, all-same, all-swap, all-not, imp-all, imp-and, imp-e, imp-i, some-make, some-none, count-same, and-true, eqb-sym}
 use Rattle.bits.specs.Bit.{bit}
 use Rattle.model.specs.Rules.{first}
 use Rattle.rows.specs.Sets.{Set}
 use Rattle.rows.specs.May.{Relation, may13, may14}
 use Rattle.rows.proofs.SetLaws.{but, set-same, either, share, as-set, and-some-imp}
-use Rattle.orders.specs.Parts.{closed, listed, coherent}
+use Rattle.orders.specs.Parts.{closed, transitiveAt, listed, coherent}
 
 -- ---- 11
 
@@ -27,6 +27,16 @@ closed-no k known asked a h = ap (λ t. not t && (all k λ b. known a b ⇒ (all
 pub closed-rest : (k : ℕ) (known asked : ℕ → ℕ → Bool) (a : ℕ) → known a a ≡ false
     → all k (λ b. known a b ⇒ all k (λ d. known b d ⇒ asked a d)) ≡ closed k known asked a
 closed-rest k known asked a h = ap (λ t. not t && (all k λ b. known a b ⇒ (all k λ d. known b d ⇒ asked a d))) (sym h)
+
+-- every three events, from a on
+pub closed-threes : (k : ℕ) (known asked : ℕ → ℕ → Bool) (a : ℕ) → known a a ≡ false
+    → all k (λ b. all k (transitiveAt known asked a b)) ≡ closed k known asked a
+closed-threes k known asked a h =
+    all-same k (λ b. all k (transitiveAt known asked a b)) (λ b. known a b ⇒ all k (λ d. known b d ⇒ asked a d))
+    (λ b lb.
+    all-same k (transitiveAt known asked a b) (λ d. known a b ⇒ (known b d ⇒ asked a d)) (λ d ld. imp-and (known a b) (known b d) (asked a d))
+    ∙ sym (imp-all k (known a b) (λ d. known b d ⇒ asked a d)))
+    ∙ closed-rest k known asked a h
 
 -- ---- 12
 

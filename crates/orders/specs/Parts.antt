@@ -12,6 +12,10 @@ use Rattle.model.specs.Rules.{first}
 use Rattle.rows.specs.Sets.{storeIn}
 use Rattle.rows.specs.May.{Relation}
 
+-- three events: where a comes before b and b before d, a comes before d
+abbrev pub transitiveAt : (known asked : ℕ → ℕ → Bool) → ℕ → ℕ → ℕ → Bool
+transitiveAt known asked a b d = (known a b && known b d) ⇒ asked a d
+
 -- of k events; known and asked are one thread's orders
 module _ (k : ℕ) where
   abbrev pub closed : (known asked : ℕ → ℕ → Bool) → ℕ → Bool

@@ -10,7 +10,7 @@ ghost use Rattle.model.specs.Limits.{mostThreads, mostAddresses, mostEvents};
 ghost use Rattle.model.specs.Rules.{first};
 ghost use Rattle.rows.specs.Sets.{Set, orderIn, setIn, storeIn};
 ghost use Rattle.rows.specs.May.{may11, may12, may13, may14};
-ghost use Rattle.orders.specs.Parts.{closed, connected, listed, coherent, writesIn, writtenIn};
+ghost use Rattle.orders.specs.Parts.{closed, transitiveAt, connected, listed, coherent, writesIn, writtenIn};
 use case::Case;
 
 // The row of a, of thread p's order, against the rows of what is in it.
@@ -53,7 +53,7 @@ fn closed_order(
     true
 }
 
-// Rule 11.
+// Rule 11, a whole row at once: the test that judging uses.
 pub fn rule11<'a>(
     known: &'a [u64; Case::MOST_THREADS * Case::MOST_EVENTS],
     asked: &'a [u64; Case::MOST_THREADS * Case::MOST_EVENTS],
@@ -66,6 +66,128 @@ pub fn rule11<'a>(
 {
     for p in 0..n {
         if !closed_order(known, asked, k, p) {
+            return false;
+        }
+    }
+    true
+}
+
+// Whether event a comes before b in thread p's order.
+fn precedes(
+    rows: &[u64; Case::MOST_THREADS * Case::MOST_EVENTS],
+    p: usize,
+    a: usize,
+    b: usize,
+) -> bool
+    requires { ⌜ p < mostThreads ⌝ }
+    requires { ⌜ a < mostEvents ⌝ }
+    requires { ⌜ b < mostEvents ⌝ }
+    ensures { λ r. ⌜ r ≡ orderIn (now (rows .entry)) p a b ⌝ }
+{
+    bits::has(rows::row(rows, p, a), b)
+}
+
+// Three events: where a comes before b and b before d, a comes before d.
+fn three(
+    known: &[u64; Case::MOST_THREADS * Case::MOST_EVENTS],
+    asked: &[u64; Case::MOST_THREADS * Case::MOST_EVENTS],
+    p: usize,
+    a: usize,
+    b: usize,
+    d: usize,
+) -> bool
+    requires { ⌜ p < mostThreads ⌝ }
+    requires { ⌜ a < mostEvents ⌝ }
+    requires { ⌜ b < mostEvents ⌝ }
+    requires { ⌜ d < mostEvents ⌝ }
+    ensures { λ r. ⌜ r ≡ transitiveAt (orderIn (now (known .entry)) p) (orderIn (now (asked .entry)) p) a b d ⌝ }
+{
+    if precedes(known, p, a, b) && precedes(known, p, b, d) {
+        precedes(asked, p, a, d)
+    } else {
+        true
+    }
+}
+
+// Events a and b of thread p's order, with every third.
+fn closed_pair_by_threes(
+    known: &[u64; Case::MOST_THREADS * Case::MOST_EVENTS],
+    asked: &[u64; Case::MOST_THREADS * Case::MOST_EVENTS],
+    k: usize,
+    p: usize,
+    a: usize,
+    b: usize,
+) -> bool
+    requires { ⌜ k ≤ mostEvents ⌝ }
+    requires { ⌜ p < mostThreads ⌝ }
+    requires { ⌜ a < k ⌝ }
+    requires { ⌜ b < k ⌝ }
+    ensures { λ r. ⌜ r ≡ all k (transitiveAt (orderIn (now (known .entry)) p) (orderIn (now (asked .entry)) p) a b) ⌝ }
+{
+    for d in 0..k {
+        if !three(known, asked, p, a, b, d) {
+            return false;
+        }
+    }
+    true
+}
+
+// Event a of thread p's order, with every second and third.
+fn closed_by_threes(
+    known: &[u64; Case::MOST_THREADS * Case::MOST_EVENTS],
+    asked: &[u64; Case::MOST_THREADS * Case::MOST_EVENTS],
+    k: usize,
+    p: usize,
+    a: usize,
+) -> bool
+    requires { ⌜ k ≤ mostEvents ⌝ }
+    requires { ⌜ p < mostThreads ⌝ }
+    requires { ⌜ a < k ⌝ }
+    ensures { λ r. ⌜ r ≡ closed k (orderIn (now (known .entry)) p) (orderIn (now (asked .entry)) p) a ⌝ }
+{
+    if precedes(known, p, a, a) {
+        return false;
+    }
+    for b in 0..k {
+        if !closed_pair_by_threes(known, asked, k, p, a, b) {
+            return false;
+        }
+    }
+    true
+}
+
+// Thread p's order is irreflexive and transitive, by every three events.
+fn closed_order_by_threes(
+    known: &[u64; Case::MOST_THREADS * Case::MOST_EVENTS],
+    asked: &[u64; Case::MOST_THREADS * Case::MOST_EVENTS],
+    k: usize,
+    p: usize,
+) -> bool
+    requires { ⌜ k ≤ mostEvents ⌝ }
+    requires { ⌜ p < mostThreads ⌝ }
+    ensures { λ r. ⌜ r ≡ all k (closed k (orderIn (now (known .entry)) p) (orderIn (now (asked .entry)) p)) ⌝ }
+{
+    for a in 0..k {
+        if !closed_by_threes(known, asked, k, p, a) {
+            return false;
+        }
+    }
+    true
+}
+
+// Rule 11 by every three events: the plain test beside the one that judging uses, with the same contract.
+pub fn rule11_by_threes<'a>(
+    known: &'a [u64; Case::MOST_THREADS * Case::MOST_EVENTS],
+    asked: &'a [u64; Case::MOST_THREADS * Case::MOST_EVENTS],
+    n: usize,
+    k: usize,
+) -> bool
+    requires { ⌜ n ≤ mostThreads ⌝ }
+    requires { ⌜ k ≤ mostEvents ⌝ }
+    ensures { λ r. ⌜ r ≡ may11 n k (orderIn (now (known .entry))) (orderIn (now (asked .entry))) ⌝ }
+{
+    for p in 0..n {
+        if !closed_order_by_threes(known, asked, k, p) {
             return false;
         }
     }
