@@ -3,3 +3,4 @@ pub mod Bytes
 pub mod Found
 pub mod Given
 pub mod RoundTrip
+pub mod OrderAnswers

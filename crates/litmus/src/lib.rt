@@ -1,8 +1,10 @@
 // Judging litmus cases for the POWER memory model PPC-Core: what users call. Every function takes any bytes and any numbers.
 ghost use mathlib.Core.Path.{_≡_};
+ghost use mathlib.Core.Bool.{true};
 ghost use lib.Dec.{eqb};
 ghost use lib.ListN.{replicate};
 ghost use Rattle.permutation.specs.Permutation.{composite as compositeOf, inverse as inverseOf, fits as fitsOf};
+ghost use Rattle.model.specs.Rules.{orElse};
 ghost use Rattle.model.specs.Record.{read as readRecord};
 ghost use Rattle.model.specs.Answers.{answerOf, judge as judgeRecord, judgeCase, write as writeCase, renumberRecord, renumberCase, name as nameOf, judgedName, renumberedName, roomIn};
 ghost use Rattle.number.specs.Reader.{stop};
@@ -10,6 +12,7 @@ ghost use Rattle.model.specs.Renumber.{fitting as fittingOf};
 ghost use Rattle.case.specs.Held.{caseOf};
 ghost use Rattle.answers.specs.Shown.{shown};
 ghost use Rattle.litmus.specs.Shown.{caseShown, partShown};
+ghost use Rattle.litmus.specs.Orders.{tooMany, rule11Answer};
 pub use answers::Answer;
 use case::Case;
 
@@ -26,10 +29,15 @@ pub struct Part {
     pub length: usize,
 }
 
-// The numbers of a model that is none and of a permutation that does not fit, and how many models there are.
+// The numbers of a model that is none, of a permutation that does not fit, of a count outside its range and of a broken rule
+// 11, and how many models there are.
 const NO_MODEL: u8 = 7;
 
 const NO_FIT: u8 = 5;
+
+const OUT_OF_RANGE: u32 = 3;
+
+const NOT_TRANSITIVE: u32 = 11;
 
 const MODELS: u64 = 2;
 
@@ -194,6 +202,60 @@ fn has_room(size: usize, room: usize, at: usize) -> bool
     false
 }
 
+// Whether a case may not have so many threads or events.
+fn too_many(threads: usize, events: usize) -> bool
+    ensures { λ b. ⌜ b ≡ tooMany threads events ⌝ }
+{
+    Case::MOST_THREADS < threads || Case::MOST_EVENTS < events
+}
+
+// The number of what rule 11's test says.
+fn rule11_number(holds: bool) -> u32
+    ensures { λ r. ⌜ r ≡ orElse holds 11 0 ⌝ }
+{
+    if holds { 0 } else { NOT_TRANSITIVE }
+}
+
+// Rule 11 of orders alone, a whole row at once: 3 for more threads or events than a case may have, 11 or 0. Bit b of the
+// row at p * MOST_EVENTS + a says that a comes before b in thread p's order; what lies beyond the counts is not looked at.
+pub fn rule11(
+    rows: &[u64; Case::MOST_THREADS * Case::MOST_EVENTS],
+    threads: usize,
+    events: usize,
+) -> u32
+    ensures { λ r. ⌜ r ≡ rule11Answer threads events (now (rows .entry)) ⌝ }
+{
+    if too_many(threads, events) {
+        return OUT_OF_RANGE;
+    }
+    rule11_number(orders::rule11(rows, rows, threads, events))
+}
+
+// The same by every three events.
+pub fn rule11_by_threes(
+    rows: &[u64; Case::MOST_THREADS * Case::MOST_EVENTS],
+    threads: usize,
+    events: usize,
+) -> u32
+    ensures { λ r. ⌜ r ≡ rule11Answer threads events (now (rows .entry)) ⌝ }
+{
+    if too_many(threads, events) {
+        return OUT_OF_RANGE;
+    }
+    rule11_number(orders::rule11_by_threes(rows, rows, threads, events))
+}
+
+// Whether both tests of rule 11 give one answer. Its contract is the theorem that they do, for any rows and any counts.
+pub fn rule11_tests_agree(
+    rows: &[u64; Case::MOST_THREADS * Case::MOST_EVENTS],
+    threads: usize,
+    events: usize,
+) -> bool
+    ensures { λ b. ⌜ b ≡ true ⌝ }
+{
+    rule11(rows, threads, events) == rule11_by_threes(rows, threads, events)
+}
+
 // First the permutation q, then r.
 pub fn composite(q: u64, r: u64) -> u64
     ensures { λ s. ⌜ s ≡ compositeOf q r ⌝ }
@@ -262,4 +324,26 @@ pub extern "C" fn litmus_composite(first: u64, then: u64) -> u64
     ensures { λ s. ⌜ s ≡ compositeOf first then ⌝ }
 {
     composite(first, then)
+}
+
+#[no_mangle]
+pub extern "C" fn litmus_rule11(
+    rows: &[u64; Case::MOST_THREADS * Case::MOST_EVENTS],
+    threads: usize,
+    events: usize,
+) -> u32
+    ensures { λ r. ⌜ r ≡ rule11Answer threads events (now (rows .entry)) ⌝ }
+{
+    rule11(rows, threads, events)
+}
+
+#[no_mangle]
+pub extern "C" fn litmus_rule11_by_threes(
+    rows: &[u64; Case::MOST_THREADS * Case::MOST_EVENTS],
+    threads: usize,
+    events: usize,
+) -> u32
+    ensures { λ r. ⌜ r ≡ rule11Answer threads events (now (rows .entry)) ⌝ }
+{
+    rule11_by_threes(rows, threads, events)
 }

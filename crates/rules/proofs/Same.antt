@@ -38,7 +38,8 @@ under x x′ {y} {y′} h f = ap (λ t. t ⇒ y) h ∙ go x′ f
     go true f = f refl
     go false f = refl
 
-module _ (c : Held) (g : EventSets) (sound : Sound c) (agree : Agrees (caseOf c) g) where
+-- of any struct, whatever lies in its spare room
+module _ (c : Held) where
   pub same11 : may11 (c .threads) (c .events) (orderIn (c .rows)) (orderIn (c .rows)) ≡ rule11 (caseOf c)
   unfolding may11 rule11 caseOf
   same11 =
@@ -48,6 +49,7 @@ module _ (c : Held) (g : EventSets) (sound : Sound c) (agree : Agrees (caseOf c)
       (all-same (c .events) _ _ (λ b lb. ap₂ (λ x y. x ⇒ y) (o p lp a la b lb)
       (all-same (c .events) _ _ (λ d ld. ap₂ (λ x y. x ⇒ y) (o p lp b lb d ld) (o p lp a la d ld)))))))
 
+module _ (c : Held) (g : EventSets) (sound : Sound c) (agree : Agrees (caseOf c) g) where
   pub same12 : may12 (c .threads) (c .events) (setIn (g .own)) (orderIn (c .rows)) ≡ rule12 (caseOf c)
   unfolding may12 rule12 caseOf
   same12 =
