@@ -98,6 +98,24 @@ litmus_part litmus_name(const uint8_t *record, size_t size);
  */
 uint64_t litmus_composite(uint64_t first, uint64_t then);
 
+/* The most threads and events of a case. */
+enum { LITMUS_THREADS = 4, LITMUS_EVENTS = 24 };
+
+/*
+ * Rule 11 of orders alone, without a record: 0 where the order of each of the threads is
+ * irreflexive and transitive, 11 where one is not, and 3 for more threads or events than a case may
+ * have. Bit b of rows[p * LITMUS_EVENTS + a] says that event a comes before event b in thread p's
+ * order; what lies beyond the two counts may be anything.
+ *
+ * This is the test that litmus_judge uses: it takes all that comes after one event at once.
+ */
+uint32_t litmus_rule11(const uint64_t rows[LITMUS_THREADS * LITMUS_EVENTS], size_t threads,
+                       size_t events);
+
+/* The same by every three events, one after the other: slower, and proved to answer the same. */
+uint32_t litmus_rule11_by_threes(const uint64_t rows[LITMUS_THREADS * LITMUS_EVENTS],
+                                 size_t threads, size_t events);
+
 #ifdef __cplusplus
 }
 #endif

@@ -36,6 +36,14 @@ use std::fmt;
 
 /// How many addresses an answer has final values for, as in `litmus.h`.
 pub const FINALS: usize = 4;
+/// The most threads of a case, as in `litmus.h`.
+pub const THREADS: usize = 4;
+/// The most events of a case, as in `litmus.h`.
+pub const EVENTS: usize = 24;
+
+/// Each thread's order: bit b at `p * EVENTS + a` says that event a comes before event b in thread
+/// p's order.
+pub type Rows = [u64; THREADS * EVENTS];
 
 /// A memory model.
 #[derive(Clone, Copy, Debug, PartialEq, Eq)]
@@ -210,6 +218,29 @@ pub fn composite(first: u64, then: u64) -> u64 {
     unsafe { archive::litmus_composite(first, then) }
 }
 
+/// Rule 11 of orders alone: whether the order of each of the threads is irreflexive and transitive.
+/// None for more threads or events than a case may have; what lies beyond the counts may be
+/// anything. It is the test that [`judge`] uses, which takes all that comes after one event at once.
+pub fn rule11(rows: &Rows, threads: usize, events: usize) -> Option<bool> {
+    // SAFETY: the call reads a whole `Rows`, and takes any counts.
+    rule11_answer(unsafe { archive::litmus_rule11(rows, threads, events) })
+}
+
+/// [`rule11`] by every three events, one after the other: slower, and proved to answer the same.
+pub fn rule11_by_threes(rows: &Rows, threads: usize, events: usize) -> Option<bool> {
+    // SAFETY: as in `rule11`.
+    rule11_answer(unsafe { archive::litmus_rule11_by_threes(rows, threads, events) })
+}
+
+/// 0 or 11, or else 3.
+fn rule11_answer(number: u32) -> Option<bool> {
+    match number {
+        0 => Some(true),
+        11 => Some(false),
+        _ => None,
+    }
+}
+
 /// [`read`] with the library's own answer.
 pub fn read_raw(record: &[u8]) -> Answer {
     // SAFETY: pointer and length are a slice's, which the call only reads.
@@ -251,7 +282,7 @@ fn done(answer: Answer) -> Result<usize, Refusal> {
 
 /// The functions of `litmus.h`.
 mod archive {
-    use super::{Answer, Part};
+    use super::{Answer, Part, Rows};
 
     // Not bundled, so that a program that calls none of these builds without the archive.
     #[link(name = "litmus", kind = "static", modifiers = "-bundle")]
@@ -269,5 +300,7 @@ mod archive {
         ) -> Answer;
         pub fn litmus_name(record: *const u8, size: usize) -> Part;
         pub fn litmus_composite(first: u64, then: u64) -> u64;
+        pub fn litmus_rule11(rows: *const Rows, threads: usize, events: usize) -> u32;
+        pub fn litmus_rule11_by_threes(rows: *const Rows, threads: usize, events: usize) -> u32;
     }
 }

@@ -1,31 +1,37 @@
-//! Times the library beside an ordinary optimised reader and judge, on the same input in one run.
+//! Times the library beside an ordinary optimised reader and judge, and its two tests of rule 11
+//! beside each other, on the same input in one run.
 
+use litmus::Rows;
 use ordinary::judge::PPCS;
-use ordinary::limits::EVENTS;
+use ordinary::limits::{EVENTS, THREADS};
 use ordinary::random::Random;
-use ordinary::{generate, rows, write};
+use ordinary::{generate, rows, write, Order};
 use std::hint::black_box;
 use std::time::{Duration, Instant};
 
-const RECORDS: usize = 500;
+/// How many records, and how many times every thread's order.
+const INPUTS: usize = 500;
 const ROUNDS: usize = 40;
 
 fn main() {
+    println!("each time is the best of {ROUNDS} rounds, which take turns\n");
+    records();
+    orders();
+}
+
+/// From bytes, beside the ordinary implementation.
+fn records() {
     let records = accepted_records();
     let bytes: usize = records.iter().map(Vec::len).sum();
-    println!("{RECORDS} accepted records of {EVENTS} events with full orders, {bytes} bytes");
-    println!("each time is the best of {ROUNDS} rounds, which take turns\n");
+    println!("{INPUTS} accepted records of {EVENTS} events with full orders, {bytes} bytes\n");
 
     let reading = compare(
         &records,
         |record| u64::from(litmus::read_raw(record).number),
         |record| black_box(rows::read(record)).map_or(1, |_| 0),
     );
-    println!("reading              ours  {}", rate(reading.ours, bytes));
-    println!(
-        "                 ordinary  {}",
-        rate(reading.ordinary, bytes)
-    );
+    println!("reading              ours  {}", rate(reading.first, bytes));
+    println!("                 ordinary  {}", rate(reading.second, bytes));
     println!("                    ratio  {:.2}\n", reading.ratio());
 
     let judging = compare(
@@ -33,52 +39,87 @@ fn main() {
         |record| u64::from(litmus::judge_raw(record, PPCS).number),
         |record| u64::from(rows::judge(record, PPCS).number),
     );
-    println!("bytes to PPCs        ours  {}", each(judging.ours));
-    println!("verdict          ordinary  {}", each(judging.ordinary));
-    println!("                    ratio  {:.2}", judging.ratio());
+    println!(
+        "bytes to PPCs        ours  {}",
+        each(judging.first, "a record")
+    );
+    println!(
+        "verdict          ordinary  {}",
+        each(judging.second, "a record")
+    );
+    println!("                    ratio  {:.2}\n", judging.ratio());
+}
+
+/// Rule 11 alone: the test that judging uses beside the plain one.
+fn orders() {
+    let orders = total_orders();
+    println!("{INPUTS} times {THREADS} total orders of {EVENTS} events\n");
+    let test = compare(
+        &orders,
+        |rows| u64::from(litmus::rule11(rows, THREADS, EVENTS) != Some(true)),
+        |rows| u64::from(litmus::rule11_by_threes(rows, THREADS, EVENTS) != Some(true)),
+    );
+    let unit = format!("for {THREADS} orders");
+    println!("rule 11     a row at once  {}", each(test.first, &unit));
+    println!("       every three events  {}", each(test.second, &unit));
+    println!("                    ratio  {:.3}", test.ratio());
 }
 
 fn accepted_records() -> Vec<Vec<u8>> {
     let mut random = Random::new(40);
-    (0..RECORDS)
+    (0..INPUTS)
         .map(|_| write::record(&generate::full(&mut random, EVENTS)))
         .collect()
 }
 
-/// The best time of each for all records.
+/// For each thread a total order of its own.
+fn total_orders() -> Vec<Rows> {
+    let mut random = Random::new(41);
+    (0..INPUTS)
+        .map(|_| {
+            let mut rows = [0; THREADS * EVENTS];
+            for thread in rows.chunks_mut(EVENTS) {
+                let mut sequence: Vec<usize> = (0..EVENTS).collect();
+                random.shuffle(&mut sequence);
+                for (a, b) in Order::total(&sequence).pairs(EVENTS) {
+                    thread[a] |= 1 << b;
+                }
+            }
+            rows
+        })
+        .collect()
+}
+
+/// The best time of each for all inputs.
 struct Times {
-    ours: Duration,
-    ordinary: Duration,
+    first: Duration,
+    second: Duration,
 }
 
 impl Times {
     fn ratio(&self) -> f64 {
-        self.ours.as_secs_f64() / self.ordinary.as_secs_f64()
+        self.first.as_secs_f64() / self.second.as_secs_f64()
     }
 }
 
-/// Both give 0 for every record, or the times would mean nothing.
-fn compare(
-    records: &[Vec<u8>],
-    ours: impl Fn(&[u8]) -> u64,
-    ordinary: impl Fn(&[u8]) -> u64,
-) -> Times {
+/// Both give 0 for every input, or the times would mean nothing.
+fn compare<T>(inputs: &[T], first: impl Fn(&T) -> u64, second: impl Fn(&T) -> u64) -> Times {
     let mut best = Times {
-        ours: Duration::MAX,
-        ordinary: Duration::MAX,
+        first: Duration::MAX,
+        second: Duration::MAX,
     };
     for _ in 0..ROUNDS {
-        best.ours = best.ours.min(time(records, &ours));
-        best.ordinary = best.ordinary.min(time(records, &ordinary));
+        best.first = best.first.min(time(inputs, &first));
+        best.second = best.second.min(time(inputs, &second));
     }
     best
 }
 
-fn time(records: &[Vec<u8>], call: impl Fn(&[u8]) -> u64) -> Duration {
+fn time<T>(inputs: &[T], call: impl Fn(&T) -> u64) -> Duration {
     let start = Instant::now();
-    let total: u64 = records.iter().map(|record| call(black_box(record))).sum();
+    let total: u64 = inputs.iter().map(|input| call(black_box(input))).sum();
     let taken = start.elapsed();
-    assert_eq!(total, 0, "every record is accepted");
+    assert_eq!(total, 0, "every input is accepted");
     taken
 }
 
@@ -87,7 +128,7 @@ fn rate(time: Duration, bytes: usize) -> String {
     format!("{:7.1} million bytes a second", per_second / 1e6)
 }
 
-fn each(time: Duration) -> String {
-    let micros = time.as_secs_f64() * 1e6 / RECORDS as f64;
-    format!("{micros:7.3} microseconds a record")
+fn each(time: Duration, unit: &str) -> String {
+    let micros = time.as_secs_f64() * 1e6 / INPUTS as f64;
+    format!("{micros:7.3} microseconds {unit}")
 }
