@@ -27,7 +27,7 @@ use Rattle.rows.specs.May.{pairs, mustRead, may11, may12, may13, may14, may15, 
 use Rattle.orders.specs.Parts.{writesIn, writtenIn}
 use Rattle.values.specs.Parts.{equalIn, threadIn}
 use Rattle.rules.specs.declared.EventSets.{EventSets}
-use Rattle.rules.specs.Verdict.{Agrees, modelOf, seenIn, judgedIn, freshIn, orderVerdict, valueVerdict, barrierVerdict}
+use Rattle.rules.specs.Verdict.{Agrees, Seen, Judged, modelOf, seenIn, judgedIn, freshIn, orderVerdict, valueVerdict, barrierVerdict}
 use Rattle.rules.proofs.Means.{kind-in, thread-in, address-in, value-in, initial-in, before-in, load-in, store-in, barrier-in, of-in, load-full, store-full, full-kind, not-not}
 
 -- under a test
@@ -153,45 +153,48 @@ module _ (c : Held) (g : EventSets) (sound : Sound c) (agree : Agrees (caseOf c)
   paired-in p lp e le =
       some-same (c .events) _ _ (λ x lx. ap₂ (λ s t. s || t) (before-in c p lp e le x lx) (before-in c p lp x lx e le))
 
-  module _ {fresh : ℕ} {those judge : List ℕ} (strong : Bool)
-      (f : Set fresh (λ l. ltb l (c .events) && freshIn (g .loads) (c .value) (c .address) (c .initial) l))
+  module _ {those judge : List ℕ} (strong : Bool)
       (v : Sets (c .threads) those (seenIn (c .events) (c .rows) (g .own)))
       (j : Sets (c .threads) judge (judgedIn strong (g .loads) (g .own) those)) where
-    seen-in : (p : ℕ) → p < c .threads → (e : ℕ) → e < c .events → setIn those p e ≡ seen (caseOf c) p e
+    pub seen-in : Seen (caseOf c) those
     unfolding seen caseOf
-    seen-in p lp e le =
-        v .has p lp e ∙ ap₂ (λ s t. (s && pairs (c .events) (orderIn (c .rows)) p e) || t) (lt-ltb e (c .events) le) (agree .own p lp e le)
-        ∙ ap (λ s. s || of (caseOf c) p e) (paired-in p lp e le)
+    seen-in = record {
+      is = λ p lp e le.
+          v .has p lp e ∙ ap₂ (λ s t. (s && pairs (c .events) (orderIn (c .rows)) p e) || t) (lt-ltb e (c .events) le) (agree .own p lp e le)
+          ∙ ap (λ s. s || of (caseOf c) p e) (paired-in p lp e le);
+    }
 
-    judged-in : (p : ℕ) → p < c .threads → (l : ℕ) → l < c .events → setIn judge p l ≡ judged (caseOf c) (modelOf strong) p l
+    pub judged-in : Judged (caseOf c) (modelOf strong) judge
     unfolding judged caseOf
-    judged-in p lp l ll = j .has p lp l ∙ by strong
+    judged-in = record { is = λ p lp l ll. j .has p lp l ∙ by p lp l ll strong }
       where
-        by : (b : Bool) → judgedIn b (g .loads) (g .own) those p l ≡ judged (caseOf c) (modelOf b) p l
-        by true = ap₂ (λ s t. s && t) (agree .load l ll) (seen-in p lp l ll)
-        by false = ap₂ (λ s t. s && t) (agree .load l ll) (agree .own p lp l ll)
+        by : (p : ℕ) → p < c .threads → (l : ℕ) → l < c .events → (b : Bool) → judgedIn b (g .loads) (g .own) those p l ≡ judged (caseOf c) (modelOf b) p l
+        by p lp l ll true = ap₂ (λ s t. s && t) (agree .load l ll) (seen-in .is p lp l ll)
+        by p lp l ll false = ap₂ (λ s t. s && t) (agree .load l ll) (agree .own p lp l ll)
 
-    judged-load : (w : Model) (p l : ℕ) → judged (caseOf c) w p l ≡ true → isLoad (caseOf c) l ≡ true
-    unfolding judged
-    judged-load PPCw p l h = and-l (isLoad (caseOf c) l) (of (caseOf c) p l) h
-    judged-load PPCs p l h = and-l (isLoad (caseOf c) l) (seen (caseOf c) p l) h
+  judged-load : (w : Model) (p l : ℕ) → judged (caseOf c) w p l ≡ true → isLoad (caseOf c) l ≡ true
+  unfolding judged
+  judged-load PPCw p l h = and-l (isLoad (caseOf c) l) (of (caseOf c) p l) h
+  judged-load PPCs p l h = and-l (isLoad (caseOf c) l) (seen (caseOf c) p l) h
 
-    fresh-in : (l : ℕ) → l < c .events → isLoad (caseOf c) l ≡ true → bit fresh l ≡ eqb (value (caseOf c) l) (initial (caseOf c) (address (caseOf c) l))
-    unfolding caseOf
-    fresh-in l ll h =
-        let full = load-kind l ll h in
-        f .has l
-        ∙ ap₂ (λ s t. s && (t && eqb (getD (c .value) l 0) (getD (c .initial) (getD (c .address) l 0) 0))) (lt-ltb l (c .events) ll) (agree .load l ll ∙ h)
-        ∙ ap₂ (λ (x y : ℕ). eqb x y) (sym (value-in c l ll full))
-        (sym (initial-in c (getD (c .address) l 0) (sound .address l ll full)) ∙ ap (initial (caseOf c)) (sym (address-in c l ll full)))
+  module _ {judge : List ℕ} (w : Model) (j : Judged (caseOf c) w judge) where
+    module _ {fresh : ℕ} (f : Set fresh (λ l. ltb l (c .events) && freshIn (g .loads) (c .value) (c .address) (c .initial) l)) where
+      fresh-in : (l : ℕ) → l < c .events → isLoad (caseOf c) l ≡ true → bit fresh l ≡ eqb (value (caseOf c) l) (initial (caseOf c) (address (caseOf c) l))
+      unfolding caseOf
+      fresh-in l ll h =
+          let full = load-kind l ll h in
+          f .has l
+          ∙ ap₂ (λ s t. s && (t && eqb (getD (c .value) l 0) (getD (c .initial) (getD (c .address) l 0) 0))) (lt-ltb l (c .events) ll) (agree .load l ll ∙ h)
+          ∙ ap₂ (λ (x y : ℕ). eqb x y) (sym (value-in c l ll full))
+          (sym (initial-in c (getD (c .address) l 0) (sound .address l ll full)) ∙ ap (initial (caseOf c)) (sym (address-in c l ll full)))
 
-    pub same15 : may15 (c .threads) (c .events) (setIn judge) (bit fresh) (storeIn (g .stores) (g .partners)) (orderIn (c .rows)) ≡ rule15 (caseOf c) (modelOf strong)
-    unfolding may15 rule15 caseOf
-    same15 =
-        all-same (c .threads) _ _ (λ p lp. all-same (c .events) _ _ (λ l ll.
-        under _ _ (judged-in p lp l ll) (λ h.
-        ap₂ (λ s t. s || t) (fresh-in l ll (judged-load (modelOf strong) p l h))
-        (some-same (c .events) _ _ (λ s ls. ap₂ (λ x y. x && y) (store-for l ll s ls) (before-in c p lp s ls l ll))))))
+      pub same15 : may15 (c .threads) (c .events) (setIn judge) (bit fresh) (storeIn (g .stores) (g .partners)) (orderIn (c .rows)) ≡ rule15 (caseOf c) w
+      unfolding may15 rule15 caseOf
+      same15 =
+          all-same (c .threads) _ _ (λ p lp. all-same (c .events) _ _ (λ l ll.
+          under _ _ (j .is p lp l ll) (λ h.
+          ap₂ (λ s t. s || t) (fresh-in l ll (judged-load w p l h))
+          (some-same (c .events) _ _ (λ s ls. ap₂ (λ x y. x && y) (store-for l ll s ls) (before-in c p lp s ls l ll))))))
 
     equal-in : (l : ℕ) → l < c .events → isLoad (caseOf c) l ≡ true → (s : ℕ) → s < c .events → isStore (caseOf c) s ≡ true
         → equalIn (c .value) l s ≡ eqb (value (caseOf c) l) (value (caseOf c) s)
@@ -201,18 +204,19 @@ module _ (c : Held) (g : EventSets) (sound : Sound c) (agree : Agrees (caseOf c)
     unfolding storeFor
     stored l s h = and-l (isStore (caseOf c) s) (oneAddress (caseOf c) l s) h
 
-    pub same16 : may16 (c .threads) (c .events) (setIn judge) (setIn those) (storeIn (g .stores) (g .partners)) (equalIn (c .value)) (orderIn (c .rows)) ≡ rule16 (caseOf c) (modelOf strong)
+    pub same16 : {those : List ℕ} → Seen (caseOf c) those
+        → may16 (c .threads) (c .events) (setIn judge) (setIn those) (storeIn (g .stores) (g .partners)) (equalIn (c .value)) (orderIn (c .rows)) ≡ rule16 (caseOf c) w
     unfolding may16 rule16 caseOf
-    same16 =
+    same16 v =
         let o = before-in c in
         all-same (c .threads) _ _ (λ p lp. all-same (c .events) _ _ (λ l ll.
-        under _ _ (judged-in p lp l ll) (λ h. all-same (c .events) _ _ (λ s ls.
-        under _ _ (ap₂ (λ x y. x && y) (store-for l ll s ls) (seen-in p lp s ls)) (λ t.
+        under _ _ (j .is p lp l ll) (λ h. all-same (c .events) _ _ (λ s ls.
+        under _ _ (ap₂ (λ x y. x && y) (store-for l ll s ls) (v .is p lp s ls)) (λ t.
         ap₂ (λ x y. x || y)
         (ap₂ (λ x y. x || y)
         (some-same (c .events) _ _ (λ x lx.
         ap₂ (λ u w. u && w) (ap₂ (λ u w. u && not (eqb x s) && w) (store-for l ll x lx) (o p lp s ls x lx)) (o p lp x lx l ll)))
-        (equal-in l ll (judged-load (modelOf strong) p l h) s ls (stored l s (and-l (storeFor (caseOf c) l s) (seen (caseOf c) p s) t))))
+        (equal-in l ll (judged-load w p l h) s ls (stored l s (and-l (storeFor (caseOf c) l s) (seen (caseOf c) p s) t))))
         (o p lp l ll s ls))))))
 
   -- ---- 17 and 18
@@ -266,20 +270,13 @@ module _ (c : Held) (g : EventSets) (sound : Sound c) (agree : Agrees (caseOf c)
 
 -- ---- the verdict, rule by rule
 
--- a test's answer to a rule
-pub broken : {x y z : Bool} → x ≡ y → y ≡ z → not x ≡ true → z ≡ false
-broken {x} h e t = sym e ∙ sym h ∙ not-true x t
+-- the first of some rules, by what its test x says
+module _ {x a : Bool} (e : x ≡ a) (i rest : ℕ) where
+  pub stops : not x ≡ true → i ≡ orElse a i rest
+  stops t = ap (λ b. orElse b i rest) (sym (sym e ∙ not-true x t))
 
-pub kept : {x y z : Bool} → x ≡ y → y ≡ z → not x ≡ false → z ≡ true
-kept {x} h e t = sym e ∙ sym h ∙ not-false x t
-
--- the first of the tests
-module _ (a : Bool) (i rest : ℕ) where
-  pub first-fails : a ≡ false → i ≡ orElse a i rest
-  first-fails h = ap (λ t. orElse t i rest) (sym h)
-
-  pub first-holds : a ≡ true → rest ≡ orElse a i rest
-  first-holds h = ap (λ t. orElse t i rest) (sym h)
+  pub goes-on : not x ≡ false → {r : ℕ} → r ≡ rest → r ≡ orElse a i rest
+  goes-on t h = h ∙ ap (λ b. orElse b i rest) (sym (sym e ∙ not-false x t))
 
 -- the verdict by its three parts
 module _ (c : Held) (w : Model) where

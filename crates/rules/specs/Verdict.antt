@@ -8,7 +8,7 @@ use lib.Dec.{eqb, ltb}
 use lib.ListN.{getD}
 use Rattle.bits.specs.Bit.{bit}
 use Rattle.model.specs.Case.{Case}
-use Rattle.model.specs.Rules.{Model, PPCw, PPCs, of, isLoad, isStore, isBarrier, oneAddress, orElse, rule11, rule12, rule13, rule14, rule15, rule16, rule17, rule18}
+use Rattle.model.specs.Rules.{Model, PPCw, PPCs, of, isLoad, isStore, isBarrier, oneAddress, seen, judged, orElse, rule11, rule12, rule13, rule14, rule15, rule16, rule17, rule18}
 use Rattle.rows.specs.Sets.{orderIn, setIn}
 use Rattle.rows.specs.May.{pairs}
 use Rattle.rules.specs.declared.EventSets.{EventSets}
@@ -25,6 +25,14 @@ pub record Agrees (c : Case) (g : EventSets) : Type 0 where
   pub store : (e : ℕ) → e < c .k → bit (g .stores) e ≡ isStore c e
   pub barrier : (e : ℕ) → e < c .k → bit (g .syncs) e ≡ isBarrier c e
   pub partner : (a : ℕ) → a < c .k → (b : ℕ) → b < c .k → setIn (g .partners) a b ≡ oneAddress c a b
+
+-- by thread, the sets are V(p)
+pub record Seen (c : Case) (sets : List ℕ) : Type 0 where
+  pub is : (p : ℕ) → p < c .n → (e : ℕ) → e < c .k → setIn sets p e ≡ seen c p e
+
+-- by thread, the sets are the loads that rules 15 and 16 speak of
+pub record Judged (c : Case) (w : Model) (sets : List ℕ) : Type 0 where
+  pub is : (p : ℕ) → p < c .n → (l : ℕ) → l < c .k → setIn sets p l ≡ judged c w p l
 
 -- by thread, of k events: what stands in some pair of its order, and its own
 abbrev pub seenIn : (k : ℕ) (known own : List ℕ) → ℕ → ℕ → Bool

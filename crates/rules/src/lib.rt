@@ -7,12 +7,12 @@ ghost use lib.ListN.{getD};
 ghost use Rattle.finite.specs.Tests.{count};
 ghost use Rattle.bits.specs.Bit.{bit};
 ghost use Rattle.model.specs.Limits.{mostThreads, mostAddresses, mostEvents};
-ghost use Rattle.model.specs.Rules.{verdict as verdictOf, finals as finalsOf};
+ghost use Rattle.model.specs.Rules.{Model, rule11, rule12, rule13, rule14, rule15, rule16, rule17, rule18, verdict as verdictOf, finals as finalsOf};
 ghost use Rattle.case.specs.Held.{caseOf};
 ghost use Rattle.case.specs.Sound.{Sound};
 ghost use Rattle.rows.specs.Sets.{Set, Sets};
 ghost use Rattle.rules.specs.Finals.{storedIn, valueIn, lastIn, finalIn};
-ghost use Rattle.rules.specs.Verdict.{Agrees, modelOf, seenIn, chosenIn, judgedIn, freshIn, orderVerdict, valueVerdict, barrierVerdict};
+ghost use Rattle.rules.specs.Verdict.{Agrees, Seen, Judged, modelOf, seenIn, chosenIn, judgedIn, freshIn, orderVerdict, valueVerdict, barrierVerdict};
 use case::Case;
 
 // The sets of a case's events: those of each thread; loads, stores and syncs; and by event those that use its address.
@@ -126,27 +126,102 @@ fn fresh_loads<'a>(
     found
 }
 
+// Rule 11 of the case.
+fn obeys11(c: Case) -> bool
+    requires { ⌜ Sound c ⌝ }
+    ensures { λ r. ⌜ r ≡ rule11 (caseOf c) ⌝ }
+{
+    orders::rule11(&c.rows, &c.rows, c.threads, c.events)
+}
+
+// Rule 12 of the case.
+fn obeys12(c: Case, g: EventSets) -> bool
+    requires { ⌜ Sound c ⌝ }
+    requires { ⌜ Agrees (caseOf c) g ⌝ }
+    ensures { λ r. ⌜ r ≡ rule12 (caseOf c) ⌝ }
+{
+    orders::rule12(&g.own, &c.rows, c.threads, c.events)
+}
+
+// Rule 13 of the case.
+fn obeys13(c: Case, g: EventSets) -> bool
+    requires { ⌜ Sound c ⌝ }
+    requires { ⌜ Agrees (caseOf c) g ⌝ }
+    ensures { λ r. ⌜ r ≡ rule13 (caseOf c) ⌝ }
+{
+    orders::rule13(&g.own, g.syncs, &g.partners, &c.rows, c.threads, c.events)
+}
+
+// Rule 14 of the case.
+fn obeys14(c: Case, g: EventSets) -> bool
+    requires { ⌜ Sound c ⌝ }
+    requires { ⌜ Agrees (caseOf c) g ⌝ }
+    ensures { λ r. ⌜ r ≡ rule14 (caseOf c) ⌝ }
+{
+    orders::rule14(
+        &c.rows,
+        g.stores,
+        &g.partners,
+        &c.address,
+        &c.writes,
+        c.threads,
+        c.events,
+    )
+}
+
 // The lowest broken of rules 11 to 14, or 0.
 fn broken_order(c: Case, g: EventSets) -> u8
     requires { ⌜ Sound c ⌝ }
     requires { ⌜ Agrees (caseOf c) g ⌝ }
     ensures { λ r. ⌜ r ≡ orderVerdict (caseOf c) ⌝ }
 {
-    let n = c.threads;
-    let k = c.events;
-    if !orders::rule11(&c.rows, &c.rows, n, k) {
+    if !obeys11(c) {
         return 11;
     }
-    if !orders::rule12(&g.own, &c.rows, n, k) {
+    if !obeys12(c, g) {
         return 12;
     }
-    if !orders::rule13(&g.own, g.syncs, &g.partners, &c.rows, n, k) {
+    if !obeys13(c, g) {
         return 13;
     }
-    if !orders::rule14(&c.rows, g.stores, &g.partners, &c.address, &c.writes, n, k) {
+    if !obeys14(c, g) {
         return 14;
     }
     0
+}
+
+// Rule 15 of the case, of the judged loads.
+fn obeys15(c: Case, g: EventSets, judged: &[u64; Case::MOST_THREADS]) -> bool
+    requires { ⌜ Sound c ⌝ }
+    requires { ⌜ Agrees (caseOf c) g ⌝ }
+    ensures { λ r. ⌜ ((w : Model) → Judged (caseOf c) w (now (judged .entry)) → r ≡ rule15 (caseOf c) w) ⌝ }
+{
+    let k = c.events;
+    let fresh = fresh_loads(g.loads, &c.value, &c.address, &c.initial, k);
+    values::rule15(judged, fresh, g.stores, &g.partners, &c.rows, c.threads, k)
+}
+
+// Rule 16 of the case, of the judged loads and the seen stores.
+fn obeys16<'a>(
+    c: Case,
+    g: EventSets,
+    seen: &'a [u64; Case::MOST_THREADS],
+    judged: &'a [u64; Case::MOST_THREADS],
+) -> bool
+    requires { ⌜ Sound c ⌝ }
+    requires { ⌜ Agrees (caseOf c) g ⌝ }
+    ensures { λ r. ⌜ ((w : Model) → Seen (caseOf c) (now (seen .entry)) → Judged (caseOf c) w (now (judged .entry)) → r ≡ rule16 (caseOf c) w) ⌝ }
+{
+    values::rule16(
+        judged,
+        seen,
+        g.stores,
+        &g.partners,
+        &c.value,
+        &c.rows,
+        c.threads,
+        c.events,
+    )
 }
 
 // The lowest broken of rules 15 and 16, or 0.
@@ -155,40 +230,33 @@ fn broken_value(c: Case, g: EventSets, strong: bool) -> u8
     requires { ⌜ Agrees (caseOf c) g ⌝ }
     ensures { λ r. ⌜ r ≡ valueVerdict (caseOf c) (modelOf strong) ⌝ }
 {
-    let n = c.threads;
-    let k = c.events;
-    let fresh = fresh_loads(g.loads, &c.value, &c.address, &c.initial, k);
-    let seen = seen_sets(&c.rows, &g.own, n, k);
-    let judged = judged_sets(strong, g.loads, &g.own, &seen, n);
-    if !values::rule15(&judged, fresh, g.stores, &g.partners, &c.rows, n, k) {
+    let seen = seen_sets(&c.rows, &g.own, c.threads, c.events);
+    let judged = judged_sets(strong, g.loads, &g.own, &seen, c.threads);
+    if !obeys15(c, g, &judged) {
         return 15;
     }
-    if !values::rule16(
-        &judged,
-        &seen,
-        g.stores,
-        &g.partners,
-        &c.value,
-        &c.rows,
-        n,
-        k,
-    ) {
+    if !obeys16(c, g, &seen, &judged) {
         return 16;
     }
     0
 }
 
-// The lowest broken of rules 17 and 18, or 0.
-fn broken_barrier(c: Case, g: EventSets) -> u8
+// Rule 17 of the case.
+fn obeys17(c: Case, g: EventSets) -> bool
     requires { ⌜ Sound c ⌝ }
     requires { ⌜ Agrees (caseOf c) g ⌝ }
-    ensures { λ r. ⌜ r ≡ barrierVerdict (caseOf c) ⌝ }
+    ensures { λ r. ⌜ r ≡ rule17 (caseOf c) ⌝ }
 {
-    let n = c.threads;
+    values::rule17(&g.own, g.syncs, &c.rows, &c.rows, c.threads, c.events)
+}
+
+// Rule 18 of the case.
+fn obeys18(c: Case, g: EventSets) -> bool
+    requires { ⌜ Sound c ⌝ }
+    requires { ⌜ Agrees (caseOf c) g ⌝ }
+    ensures { λ r. ⌜ r ≡ rule18 (caseOf c) ⌝ }
+{
     let k = c.events;
-    if !values::rule17(&g.own, g.syncs, &c.rows, &c.rows, n, k) {
-        return 17;
-    }
     let read = values::reads_from(
         g.loads,
         g.stores,
@@ -198,7 +266,7 @@ fn broken_barrier(c: Case, g: EventSets) -> u8
         &c.rows,
         k,
     );
-    if !values::rule18(
+    values::rule18(
         &g.own,
         g.syncs,
         g.stores,
@@ -206,9 +274,21 @@ fn broken_barrier(c: Case, g: EventSets) -> u8
         &c.thread,
         &c.rows,
         &c.rows,
-        n,
+        c.threads,
         k,
-    ) {
+    )
+}
+
+// The lowest broken of rules 17 and 18, or 0.
+fn broken_barrier(c: Case, g: EventSets) -> u8
+    requires { ⌜ Sound c ⌝ }
+    requires { ⌜ Agrees (caseOf c) g ⌝ }
+    ensures { λ r. ⌜ r ≡ barrierVerdict (caseOf c) ⌝ }
+{
+    if !obeys17(c, g) {
+        return 17;
+    }
+    if !obeys18(c, g) {
         return 18;
     }
     0
