@@ -10,7 +10,6 @@ use mathlib.Core.Logic.{_↔_}
 use mathlib.Core.List.{List, [], _∷_}
 use lib.Dec.{T, lit<}
 use lib.ListN.{length, getD}
-use Rattle.finite.specs.Tests.{all}
 use Rattle.finite.proofs.Tests.{all-iff, and-iff, imp-iff}
 use Rattle.model.specs.Case.{Case}
 use Rattle.model.specs.Rules.{Model, orElse, before, isBarrier, of, everywhere, rule11, rule12, rule13, rule14, rule15, rule16, rule17, rule18, verdict}

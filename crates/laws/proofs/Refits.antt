@@ -1,7 +1,7 @@
 -- A case that keeps the limits keeps them with other labels, and its record keeps its length.
 -- Assumes nothing.
 use Prim.Native.Nat.{ℕ, zero, suc, _+_, _≤_, _<_}
-use native.Mathlib.Nat.{add-zero, zero-add, add-suc, suc-add, not-suc-le-zero, le-of-suc-le-suc}
+use native.Mathlib.Nat.{add-zero, zero-add, add-suc, suc-add}
 use native.Mathlib.Omega.{arith}
 use mathlib.Core.Path.{_≡_, refl, sym, ap, ap₂, _∙_, subst, fun-ext}
 use mathlib.Core.Bool.{Bool, true, false, cond, _&&_}
@@ -22,7 +22,7 @@ use Rattle.model.specs.Record.{storeTo}
 use Rattle.model.specs.Written.{eventBytes, orderBytes, recordOf}
 use Rattle.model.specs.Renumber.{moved, relabel, renumber}
 use Rattle.laws.proofs.Fits.{All, EventFits, WriteFits, WritesFit, Fits}
-use Rattle.laws.proofs.AllFrom.{AllFrom, all-at, all-table, from-at, from-table, writes-from, from-writes}
+use Rattle.laws.proofs.AllFrom.{all-at, all-table, from-at, from-table, writes-from, from-writes}
 use Rattle.laws.proofs.Renumbered.{event-at}
 
 module _ {A : Type 0} (P : A → Type 0) where

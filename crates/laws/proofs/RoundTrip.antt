@@ -1,7 +1,7 @@
 -- What is written reads back as the same case, and what was read writes back as the same bytes, of the definitions that the
 -- contracts of `litmus::write` and `litmus::read` cite.
 -- Assumes nothing.
-use Prim.Native.Nat.{ℕ, _+_, _-_, _≤_}
+use Prim.Native.Nat.{ℕ, _+_, _≤_}
 use mathlib.Core.Path.{_≡_, sym, ap, _∙_}
 use mathlib.Core.List.{List, _++_, append-assoc}
 use lib.Dec.{T, leb, leb→le}
@@ -9,11 +9,11 @@ use lib.ListN.{length, take, drop}
 use lib.Seq.{drop-at, length-take-le}
 use Rattle.finite.proofs.Tests.{T-true, and-left}
 use Rattle.number.specs.Number.{splice}
-use Rattle.number.specs.Reader.{Out, next}
+use Rattle.number.specs.Reader.{next}
 use Rattle.model.specs.Case.{Case}
 use Rattle.model.specs.Record.{read}
 use Rattle.model.specs.Written.{recordOf}
-use Rattle.model.specs.Answers.{Stored, done, room, put, putOut, write}
+use Rattle.model.specs.Answers.{Stored, done, room, put, write}
 use Rattle.laws.proofs.Fits.{Fits, Bytes}
 use Rattle.laws.proofs.ReadBack.{read-back}
 use Rattle.laws.proofs.ExactCase.{Readable, readable}

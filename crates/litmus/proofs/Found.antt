@@ -1,6 +1,6 @@
 -- What a reading of the code says: the case that the model reads, or its refusal.
 -- Assumes nothing.
-use Prim.Native.Nat.{ℕ, _≤_}
+use Prim.Native.Nat.{ℕ}
 use native.Mathlib.Omega.{arith}
 use mathlib.Core.Path.{_≡_, refl, sym, ap, _∙_, subst}
 use mathlib.Core.List.{List}
@@ -11,7 +11,6 @@ use Rattle.model.specs.Case.{Case}
 use Rattle.model.specs.Record.{read}
 use Rattle.laws.proofs.Fits.{Fits, Bytes}
 use Rattle.laws.proofs.ExactCase.{readable, refused}
-use Rattle.case.specs.declared.Case.{Case as Held}
 use Rattle.case.specs.Held.{caseOf, held}
 use Rattle.case.specs.Sound.{Sound}
 use Rattle.case.proofs.HeldBack.{fits-back}

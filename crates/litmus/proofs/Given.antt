@@ -1,23 +1,21 @@
 -- What the answers are, by what the calls inside told.
 -- Assumes nothing.
-use Prim.Native.Nat.{ℕ, zero, suc, _≤_, _<_}
-use native.Mathlib.Omega.{arith}
+use Prim.Native.Nat.{ℕ, zero, suc, _<_}
 use mathlib.Core.Path.{_≡_, refl, sym, ap, _∙_, subst}
-use mathlib.Core.Bool.{Bool, true, false, cond, _&&_}
+use mathlib.Core.Bool.{Bool, true, false, cond}
 use mathlib.Core.List.{List}
 use lib.Dec.{T, eqb}
 use lib.ListN.{length, replicate, length-replicate}
 use Rattle.finite.proofs.Tests.{true-T, and-left, and-right}
 use Rattle.number.specs.Reader.{Out, stop, next}
 use Rattle.permutation.specs.Permutation.{fits}
-use Rattle.model.specs.Limits.{mostAddresses}
 use Rattle.model.specs.Case.{Case}
 use Rattle.model.specs.Rules.{Model, verdict}
 use Rattle.model.specs.Record.{read}
 use Rattle.model.specs.Written.{recordOf}
 use Rattle.model.specs.Fault.{fault}
 use Rattle.model.specs.Renumber.{renumber, fitting}
-use Rattle.model.specs.Answers.{Answer, Stored, judgement, judgeOut, judge, judgeCase, underModel, refusal, done, answerOf, handed, faultless, put, putOut, write, roomIn, renumberOut, renumberRecord, renumberCase}
+use Rattle.model.specs.Answers.{Stored, judgement, judgeOut, judge, judgeCase, refusal, done, handed, faultless, put, putOut, write, roomIn, renumberOut, renumberRecord, renumberCase}
 use Rattle.laws.proofs.Fits.{Fits, Bytes}
 use Rattle.laws.proofs.Refits.{refits, same-length}
 use Rattle.case.specs.declared.Case.{Case as Held}

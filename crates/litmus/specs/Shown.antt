@@ -1,6 +1,5 @@
 -- The model's answers as the structs that callers get.
 -- Assumes nothing.
-use Prim.Native.Nat.{ℕ}
 use Rattle.number.specs.Reader.{Out, stop, next}
 use Rattle.model.specs.Case.{Case}
 use Rattle.model.specs.Answers.{answerOf, namePart}

@@ -1,15 +1,14 @@
 -- Lists of judging and renumbering calls, the composed permutations beside them, and what is claimed of every list (01, "Renumbering labels").
 -- Assumes nothing.
 use mathlib.Core.Path.{_≡_}
-use mathlib.Core.Bool.{Bool, true, false, _&&_, cond}
+use mathlib.Core.Bool.{Bool, false, _&&_, cond}
 use mathlib.Core.List.{List, [], _∷_, _++_}
-use Prim.Native.Nat.{ℕ, zero, suc, _+_, _-_}
+use Prim.Native.Nat.{ℕ, _+_}
 use lib.Dec.{eqb}
-use lib.ListN.{length, getD, take, drop}
-use Rattle.finite.specs.Lists.{table}
+use lib.ListN.{length, take, drop}
 use Rattle.number.specs.Number.{splice}
 use Rattle.number.specs.Reader.{Out, stop, next}
-use Rattle.permutation.specs.Permutation.{image, inverse, composite, fits}
+use Rattle.permutation.specs.Permutation.{composite, fits}
 use Rattle.model.specs.Limits.{mostAddresses}
 use Rattle.model.specs.Case.{Case}
 use Rattle.model.specs.Record.{read}

@@ -1,6 +1,6 @@
 -- The model's rules (01, "The model's rules"), the verdict and the finals.
 -- Assumes nothing.
-use Prim.Native.Nat.{ℕ, zero, suc}
+use Prim.Native.Nat.{ℕ}
 use mathlib.Core.Bool.{Bool, true, false, not, cond, _&&_, _||_}
 use mathlib.Core.List.{List, [], _∷_, map}
 use lib.Dec.{eqb, ltb}
@@ -9,7 +9,7 @@ use Rattle.finite.specs.Tests.{all, some, _⇒_}
 use Rattle.finite.specs.Lists.{table}
 use Rattle.bits.specs.Bit.{bit}
 use Rattle.model.specs.Limits.{mostAddresses}
-use Rattle.model.specs.Case.{Case, Event, noEvent, load, store, sync}
+use Rattle.model.specs.Case.{Case, noEvent, load, store, sync}
 
 -- 01: "Models: 0 is PPCw, 1 is PPCs"
 pub data Model : Type 0 where

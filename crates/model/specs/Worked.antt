@@ -9,7 +9,7 @@ use lib.Dec.{eqb}
 use lib.ListN.{length, take}
 use Rattle.finite.specs.Lists.{table}
 use Rattle.number.specs.Reader.{Out, stop, next}
-use Rattle.model.specs.Case.{Case, Event}
+use Rattle.model.specs.Case.{Case}
 use Rattle.model.specs.Written.{recordOf}
 use Rattle.model.specs.Answers.{Answer, refusal, done, answerOf, Stored, write, judge, judgeCase, renumberRecord, renumberCase, judgedName, renumberedName}
 use Rattle.model.specs.Calls.{Call, judging, renumbering, judgingCase, renumberingCase, Composed, start, composedAfter}

@@ -1,6 +1,6 @@
 -- Laws of rules 11 to 14 as they are tested.
 -- Assumes nothing.
-use Prim.Native.Nat.{ℕ, zero, suc, _+_, _-_, _≤_, _<_}
+use Prim.Native.Nat.{ℕ, suc, _+_, _-_, _≤_, _<_}
 use native.Mathlib.Numerals.{add-one}
 use native.Mathlib.Omega.{arith}
 use mathlib.Core.Path.{_≡_, refl, sym, ap, ap₂, _∙_}
@@ -8,8 +8,8 @@ use mathlib.Core.Bool.{Bool, true, false, not, _&&_, _||_, true≢false}
 use mathlib.Core.List.{List, _∷_}
 use lib.Dec.{eqb, ltb}
 use lib.Bits.{bitAnd, bitOr}
-use borrow.Author.Tests.{eqb-true, eq-eqb, ne-eqb, ltb-true, lt-ltb, ltb-false}
-use Rattle.finite.specs.Tests.{all, some, count, tick, _⇒_}
+use borrow.Author.Tests.{eq-eqb, ne-eqb, ltb-true, lt-ltb, ltb-false}
+use Rattle.finite.specs.Tests.{all, some, count, _⇒_}
 use Rattle.finite.specs.Lists.{table}
 use Rattle.finite.proofs.Tests.{iff, and-l, and-r, and-i, or-l, or-r, or-e, is-false, all-get, all-make, all-same, all-swap, all-not, imp-all, imp-and, imp-e, imp-i, some-make, some-none, count-same, and-true, eqb-sym}
 use Rattle.bits.specs.Bit.{bit}

@@ -4,7 +4,7 @@ ghost use mathlib.Core.Path.{_≡_};
 ghost use mathlib.Core.Bool.{true, _&&_, _||_};
 ghost use Prim.Native.Nat.{ℕ, _+_, _*_, _<_, _≤_};
 ghost use lib.ListN.{getD};
-ghost use Rattle.finite.specs.Tests.{all, some, count, _⇒_};
+ghost use Rattle.finite.specs.Tests.{all, count, _⇒_};
 ghost use Rattle.bits.specs.Bit.{bit};
 ghost use Rattle.model.specs.Limits.{mostThreads, mostAddresses, mostEvents};
 ghost use Rattle.model.specs.Rules.{first};

@@ -1,6 +1,6 @@
 // The permutations of four labels, by their numbers in dictionary order.
 ghost use mathlib.Core.Path.{_≡_};
-ghost use Prim.Native.Nat.{_<_, _≤_};
+ghost use Prim.Native.Nat.{_<_};
 ghost use Rattle.permutation.specs.Permutation.{image as imageOf, composite as compositeOf, inverse as inverseOf, fits as fitsOf, known as knownOf, permutations};
 
 // How many labels a permutation moves, and how many permutations there are.

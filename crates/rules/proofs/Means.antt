@@ -3,17 +3,14 @@
 use Prim.Native.Nat.{ℕ, zero, suc, _+_, _*_, _%_, _^_, _≤_, _<_}
 use native.Mathlib.Omega.{arith}
 use mathlib.Core.Path.{_≡_, refl, sym, ap, _∙_}
-use mathlib.Core.Bool.{Bool, true, false, not, cond, _&&_, _||_, true≢false}
+use mathlib.Core.Bool.{Bool, true, false, not, cond, _||_, true≢false}
 use mathlib.Core.List.{List, []}
 use lib.Dec.{eqb}
 use lib.ListN.{getD}
-use lib.Bits.{and-mask}
-use borrow.Author.Tests.{eqb-true, eq-eqb, lt-ltb}
+use borrow.Author.Tests.{eqb-true}
 use Rattle.finite.specs.Lists.{table}
-use Rattle.finite.proofs.Tests.{iff}
 use Rattle.finite.proofs.Lists.{table-get}
 use Rattle.bits.specs.Bit.{bit}
-use Rattle.bits.proofs.Bits.{bit-below}
 use Rattle.model.specs.Limits.{mostEvents}
 use Rattle.model.specs.Case.{Event, noEvent, bare, load, store, sync, mostKind}
 use Rattle.model.specs.Rules.{kind, thread, address, value, initial, isLoad, isStore, isBarrier, of, before}

@@ -1,16 +1,15 @@
 -- Laws of `run` and `sum`, of sizes and of stages: what a function that counts or writes a stage does, and the turns of its loop.
 -- Assumes nothing.
-use Prim.Native.Nat.{ℕ, zero, suc, _+_, _*_, _/_, _^_, _≤_, _<_}
-use native.Mathlib.Nat.{pow-suc, add-mul, one-mul, le-trans, lt-of-le-of-lt, le-antisymm, mul-le-mul-right, mul-le-mul-left, add-zero, le-of-suc-le-suc, eq-or-lt-of-le}
+use Prim.Native.Nat.{ℕ, zero, suc, _+_, _*_, _^_, _≤_, _<_}
+use native.Mathlib.Nat.{add-mul, one-mul, le-trans, lt-of-le-of-lt, le-antisymm, mul-le-mul-right, mul-le-mul-left, add-zero, le-of-suc-le-suc, eq-or-lt-of-le}
 use native.Mathlib.Omega.{arith}
 use native.Mathlib.Numerals.{add-one}
-use mathlib.Core.Path.{_≡_, refl, sym, ap, ap₂, _∙_, subst}
+use mathlib.Core.Path.{_≡_, refl, sym, ap, ap₂, _∙_}
 use mathlib.Core.Logic.{⊎-elim}
 use mathlib.Core.Bool.{Bool, true, false, cond}
 use mathlib.Core.List.{List, [], _∷_, _++_, append-nil, append-assoc}
 use lib.ListN.{length, take, set, length-append, take-append-drop}
 use Rattle.number.specs.Number.{encode, splice}
-use Rattle.number.proofs.Encoding.{lt-or-ge, encode-long, encode-low, encode-high}
 use Rattle.number.proofs.Splice.{splice-length, splice-append, is-sets}
 use mir.Syntax.{w64}
 use mir.Val.{Fits}

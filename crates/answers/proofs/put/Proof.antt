@@ -1,5 +1,5 @@
 -- `answers::put` meets its contract. Assumes nothing.
-use mathlib.Core.Path.{_≡_, ap}
+use mathlib.Core.Path.{ap}
 use borrow.Author.Needs.{needs}
 use Rattle.model.specs.Answers.{Stored}
 use Rattle.writer.specs.Stored.{storedOf}

@@ -1,6 +1,5 @@
 -- `litmus::fitting` meets its contract. Assumes nothing.
-use mathlib.Core.Path.{_≡_, sym, _∙_}
-use mathlib.Core.Bool.{_&&_}
+use mathlib.Core.Path.{sym, _∙_}
 use borrow.Author.Needs.{needs}
 use Rattle.model.specs.Renumber.{fitting}
 use Rattle.case.specs.Held.{caseOf}

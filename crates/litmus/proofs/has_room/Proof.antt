@@ -1,5 +1,4 @@
 -- `litmus::has_room` meets its contract. Assumes nothing.
-use mathlib.Core.Path.{_≡_}
 use borrow.Author.Tests.{le-leb, lt-leb}
 use Rattle.litmus.proofs.has_room.Statement.{statement}
 use Rattle.litmus.proofs.has_room.Tie as tie

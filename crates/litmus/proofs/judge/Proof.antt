@@ -1,5 +1,5 @@
 -- `litmus::judge` meets its contract. Assumes nothing.
-use mathlib.Core.Path.{_≡_, sym, ap, _∙_}
+use mathlib.Core.Path.{sym, ap, _∙_}
 use borrow.Author.Needs.{needs}
 use Rattle.model.specs.Answers.{judge}
 use Rattle.answers.specs.Shown.{shown}

@@ -1,5 +1,5 @@
 -- `litmus::judged_name` meets its contract. Assumes nothing.
-use mathlib.Core.Path.{_≡_, refl, sym, _∙_}
+use mathlib.Core.Path.{refl, sym, _∙_}
 use borrow.Author.Needs.{needs}
 use Rattle.model.specs.Answers.{judgedName}
 use Rattle.litmus.proofs.Models.{no-model, either-model}

@@ -1,7 +1,6 @@
 -- `litmus::litmus_name` meets its contract. Assumes nothing.
-use mathlib.Core.Path.{_≡_, ap}
+use mathlib.Core.Path.{ap}
 use borrow.Author.Needs.{needs}
-use Rattle.litmus.specs.declared.Part.{Part}
 use Rattle.reader.specs.declared.NamePart.{NamePart}
 use Rattle.litmus.proofs.litmus_name.Statement.{statement}
 use Rattle.litmus.proofs.litmus_name.Tie as tie

@@ -1,5 +1,4 @@
 -- `litmus::no_case` meets its contract. Assumes nothing.
-use mathlib.Core.Path.{_≡_, ap₂, _∙_}
 use borrow.Author.Needs.{needs}
 use Rattle.litmus.specs.Shown.{caseShown}
 use Rattle.litmus.proofs.no_case.Statement.{statement}

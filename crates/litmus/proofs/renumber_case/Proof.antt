@@ -1,5 +1,5 @@
 -- `litmus::renumber_case` meets its contract. Assumes nothing.
-use mathlib.Core.Path.{_≡_, sym, ap, _∙_}
+use mathlib.Core.Path.{sym, _∙_}
 use borrow.Author.Needs.{needs}
 use Rattle.model.specs.Limits.{mostName}
 use Rattle.laws.proofs.Fits.{Bytes}

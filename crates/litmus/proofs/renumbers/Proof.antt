@@ -1,10 +1,9 @@
 -- `litmus::renumbers` meets its contract. Assumes nothing.
-use mathlib.Core.Path.{_≡_, sym, ap, _∙_}
+use mathlib.Core.Path.{sym, ap, _∙_}
 use borrow.Author.Needs.{needs}
 use borrow.Author.Tests.{ne-eqb}
 use lib.Dec.{eqb}
 use Rattle.model.specs.Answers.{Stored}
-use Rattle.laws.proofs.Fits.{Bytes}
 use Rattle.litmus.proofs.Bytes.{slice-bytes}
 use Rattle.litmus.proofs.Found.{Found, found, missed}
 use Rattle.litmus.proofs.Given.{renumber-room, renumber-misfit, renumber-missed}

@@ -1,8 +1,7 @@
-use mathlib.Core.Path.{_≡_, _∙_, sym, subst}
+use mathlib.Core.Path.{_≡_, sym, subst}
 use Prim.Native.Nat.{ℕ, _≤_, _<_, _-_, _+_}
 use native.Mathlib.Decide.{ℕ-discrete}
 use native.Mathlib.Omega.{arith}
-use borrow.Author.Needs.{needs}
 use Rattle.permutation.specs.Permutation.{image}
 use Rattle.permutation.proofs.Laws.{fits-far, fits-no, fits-yes}
 use Rattle.permutation.proofs.fits.Statement.{statement}

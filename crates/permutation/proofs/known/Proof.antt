@@ -1,4 +1,3 @@
-use borrow.Author.Needs.{needs}
 use Rattle.permutation.proofs.Laws.{known-below, known-none}
 use native.Mathlib.Omega.{arith}
 use Rattle.permutation.proofs.known.Statement.{statement}
