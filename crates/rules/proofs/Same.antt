@@ -153,24 +153,22 @@ module _ (c : Held) (g : EventSets) (sound : Sound c) (agree : Agrees (caseOf c)
   paired-in p lp e le =
       some-same (c .events) _ _ (λ x lx. ap₂ (λ s t. s || t) (before-in c p lp e le x lx) (before-in c p lp x lx e le))
 
-  module _ {those judge : List ℕ} (strong : Bool)
-      (v : Sets (c .threads) those (seenIn (c .events) (c .rows) (g .own)))
-      (j : Sets (c .threads) judge (judgedIn strong (g .loads) (g .own) those)) where
-    pub seen-in : Seen (caseOf c) those
-    unfolding seen caseOf
-    seen-in = record {
-      is = λ p lp e le.
-          v .has p lp e ∙ ap₂ (λ s t. (s && pairs (c .events) (orderIn (c .rows)) p e) || t) (lt-ltb e (c .events) le) (agree .own p lp e le)
-          ∙ ap (λ s. s || of (caseOf c) p e) (paired-in p lp e le);
-    }
+  pub seen-in : {those : List ℕ} → Sets (c .threads) those (seenIn (c .events) (c .rows) (g .own)) → Seen (caseOf c) those
+  unfolding seen caseOf
+  seen-in v = record {
+    is = λ p lp e le.
+        v .has p lp e ∙ ap₂ (λ s t. (s && pairs (c .events) (orderIn (c .rows)) p e) || t) (lt-ltb e (c .events) le) (agree .own p lp e le)
+        ∙ ap (λ s. s || of (caseOf c) p e) (paired-in p lp e le);
+  }
 
-    pub judged-in : Judged (caseOf c) (modelOf strong) judge
-    unfolding judged caseOf
-    judged-in = record { is = λ p lp l ll. j .has p lp l ∙ by p lp l ll strong }
-      where
-        by : (p : ℕ) → p < c .threads → (l : ℕ) → l < c .events → (b : Bool) → judgedIn b (g .loads) (g .own) those p l ≡ judged (caseOf c) (modelOf b) p l
-        by p lp l ll true = ap₂ (λ s t. s && t) (agree .load l ll) (seen-in .is p lp l ll)
-        by p lp l ll false = ap₂ (λ s t. s && t) (agree .load l ll) (agree .own p lp l ll)
+  pub judged-in : {those judge : List ℕ} (strong : Bool) → Seen (caseOf c) those
+      → Sets (c .threads) judge (judgedIn strong (g .loads) (g .own) those) → Judged (caseOf c) (modelOf strong) judge
+  unfolding judged caseOf
+  judged-in {those} strong v j = record { is = λ p lp l ll. j .has p lp l ∙ by p lp l ll strong }
+    where
+      by : (p : ℕ) → p < c .threads → (l : ℕ) → l < c .events → (b : Bool) → judgedIn b (g .loads) (g .own) those p l ≡ judged (caseOf c) (modelOf b) p l
+      by p lp l ll true = ap₂ (λ s t. s && t) (agree .load l ll) (v .is p lp l ll)
+      by p lp l ll false = ap₂ (λ s t. s && t) (agree .load l ll) (agree .own p lp l ll)
 
   judged-load : (w : Model) (p l : ℕ) → judged (caseOf c) w p l ≡ true → isLoad (caseOf c) l ≡ true
   unfolding judged

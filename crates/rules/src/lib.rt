@@ -88,6 +88,23 @@ fn judged_sets(
     out
 }
 
+// By thread, V(p) and the loads that rules 15 and 16 speak of.
+struct ThreadViews {
+    seen: [u64; Case::MOST_THREADS],
+    judged: [u64; Case::MOST_THREADS],
+}
+
+fn views(c: Case, g: EventSets, strong: bool) -> ThreadViews
+    requires { ⌜ Sound c ⌝ }
+    requires { ⌜ Agrees (caseOf c) g ⌝ }
+    ensures { λ r. ⌜ Seen (caseOf c) (r .seen) ⌝ }
+    ensures { λ r. ⌜ Judged (caseOf c) (modelOf strong) (r .judged) ⌝ }
+{
+    let seen = seen_sets(&c.rows, &g.own, c.threads, c.events);
+    let judged = judged_sets(strong, g.loads, &g.own, &seen, c.threads);
+    ThreadViews { seen, judged }
+}
+
 // Load l, if it holds its address's initial value.
 fn fresh_load(
     loads: u64,
@@ -230,12 +247,11 @@ fn broken_value(c: Case, g: EventSets, strong: bool) -> u8
     requires { ⌜ Agrees (caseOf c) g ⌝ }
     ensures { λ r. ⌜ r ≡ valueVerdict (caseOf c) (modelOf strong) ⌝ }
 {
-    let seen = seen_sets(&c.rows, &g.own, c.threads, c.events);
-    let judged = judged_sets(strong, g.loads, &g.own, &seen, c.threads);
-    if !obeys15(c, g, &judged) {
+    let v = views(c, g, strong);
+    if !obeys15(c, g, &v.judged) {
         return 15;
     }
-    if !obeys16(c, g, &seen, &judged) {
+    if !obeys16(c, g, &v.seen, &v.judged) {
         return 16;
     }
     0

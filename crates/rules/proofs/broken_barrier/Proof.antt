@@ -12,11 +12,11 @@ broken-barrier-spec =
     tie.close
     (tie.spec
     (λ c κs. search needs)
-    (λ c. stops (c .before .obeys17 .ensures) _ _ (c .if1 .taken))
+    (λ c. stops (c .before .obeys17 .ensures) 17 _ (c .if1 .taken))
     (λ c κs. search needs)
     (λ c.
     let d17 = c .before .before in
-    goes-on (d17 .before .obeys17 .ensures) _ _ (d17 .if1 .left) (stops (c .before .obeys18 .ensures) _ _ (c .if2 .taken)))
+    goes-on (d17 .before .obeys17 .ensures) 17 _ (d17 .if1 .left) (stops (c .before .obeys18 .ensures) 18 _ (c .if2 .taken)))
     (λ c.
     let d17 = c .before .before in
-    goes-on (d17 .before .obeys17 .ensures) _ _ (d17 .if1 .left) (goes-on (c .before .obeys18 .ensures) _ _ (c .if2 .left) refl)))
+    goes-on (d17 .before .obeys17 .ensures) 17 _ (d17 .if1 .left) (goes-on (c .before .obeys18 .ensures) 18 _ (c .if2 .left) refl)))
