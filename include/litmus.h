@@ -105,7 +105,7 @@ enum { LITMUS_THREADS = 4, LITMUS_EVENTS = 24 };
  * Rule 11 of orders alone, without a record: 0 where the order of each of the threads is
  * irreflexive and transitive, 11 where one is not, and 3 for more threads or events than a case may
  * have. Bit b of rows[p * LITMUS_EVENTS + a] says that event a comes before event b in thread p's
- * order; what lies beyond the two counts may be anything.
+ * order; what lies beyond the two counts may be anything, but rows has all its entries.
  *
  * This is the test that litmus_judge uses: it takes all that comes after one event at once.
  */

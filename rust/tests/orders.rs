@@ -11,7 +11,7 @@ const HEADER: &str = include_str!("../../include/litmus.h");
 /// The rule's number.
 const RULE: u32 = 11;
 
-/// A random order: total, what a few pairs close to, or as few or many pairs as come.
+/// A random order: total, or what a few of its pairs close to.
 fn any_order(random: &mut Random, count: usize) -> Order {
     let mut sequence: Vec<usize> = (0..count).collect();
     random.shuffle(&mut sequence);

@@ -72,21 +72,6 @@ pub fn rule11<'a>(
     true
 }
 
-// Whether event a comes before b in thread p's order.
-fn precedes(
-    rows: &[u64; Case::MOST_THREADS * Case::MOST_EVENTS],
-    p: usize,
-    a: usize,
-    b: usize,
-) -> bool
-    requires { ⌜ p < mostThreads ⌝ }
-    requires { ⌜ a < mostEvents ⌝ }
-    requires { ⌜ b < mostEvents ⌝ }
-    ensures { λ r. ⌜ r ≡ orderIn (now (rows .entry)) p a b ⌝ }
-{
-    bits::has(rows::row(rows, p, a), b)
-}
-
 // Three events: where a comes before b and b before d, a comes before d.
 fn three(
     known: &[u64; Case::MOST_THREADS * Case::MOST_EVENTS],
@@ -102,8 +87,8 @@ fn three(
     requires { ⌜ d < mostEvents ⌝ }
     ensures { λ r. ⌜ r ≡ transitiveAt (orderIn (now (known .entry)) p) (orderIn (now (asked .entry)) p) a b d ⌝ }
 {
-    if precedes(known, p, a, b) && precedes(known, p, b, d) {
-        precedes(asked, p, a, d)
+    if rows::precedes(known, p, a, b) && rows::precedes(known, p, b, d) {
+        rows::precedes(asked, p, a, d)
     } else {
         true
     }
@@ -145,7 +130,7 @@ fn closed_by_threes(
     requires { ⌜ a < k ⌝ }
     ensures { λ r. ⌜ r ≡ closed k (orderIn (now (known .entry)) p) (orderIn (now (asked .entry)) p) a ⌝ }
 {
-    if precedes(known, p, a, a) {
+    if rows::precedes(known, p, a, a) {
         return false;
     }
     for b in 0..k {

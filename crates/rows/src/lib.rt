@@ -22,6 +22,21 @@ pub fn row(rows: &[u64; Case::MOST_THREADS * Case::MOST_EVENTS], p: usize, a: us
     rows[p * Case::MOST_EVENTS + a]
 }
 
+// Whether event a comes before b in thread p's order.
+pub fn precedes(
+    rows: &[u64; Case::MOST_THREADS * Case::MOST_EVENTS],
+    p: usize,
+    a: usize,
+    b: usize,
+) -> bool
+    requires { ⌜ p < mostThreads ⌝ }
+    requires { ⌜ a < mostEvents ⌝ }
+    requires { ⌜ b < mostEvents ⌝ }
+    ensures { λ r. ⌜ r ≡ orderIn (now (rows .entry)) p a b ⌝ }
+{
+    bits::has(row(rows, p, a), b)
+}
+
 // The set where the test passes, else none.
 pub fn where_so(test: bool, set: u64) -> u64
     ensures { λ r. ⌜ Set r (λ e. test && bit set e) ⌝ }
@@ -92,7 +107,7 @@ fn before_one(
     requires { ⌜ a < mostEvents ⌝ }
     ensures { λ r. ⌜ Set r (λ e. orderIn (now (rows .entry)) p a b && eqb e a) ⌝ }
 {
-    where_so(bits::has(row(rows, p, a), b), alone(a))
+    where_so(precedes(rows, p, a, b), alone(a))
 }
 
 // What comes before event b, in p's order.
@@ -128,7 +143,7 @@ fn before_one_of(
     requires { ⌜ bit set a ≡ true ⌝ }
     ensures { λ r. ⌜ Set r (λ e. (bit set a && orderIn (now (rows .entry)) p a b) && eqb e a) ⌝ }
 {
-    where_so(bits::has(row(rows, p, a), b), alone(a))
+    where_so(precedes(rows, p, a, b), alone(a))
 }
 
 // The events of the set that come before event b, in p's order.

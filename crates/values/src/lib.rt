@@ -118,7 +118,7 @@ fn explained_store(
         if values[l] == values[s] {
             return true;
         }
-        if bits::has(rows::row(asked, p, l), s) {
+        if rows::precedes(asked, p, l, s) {
             return true;
         }
         rows::any(
@@ -413,7 +413,7 @@ fn must_read(
     ensures { λ r. ⌜ r ≡ mustReadOf k (bit sources) (bit rivals) (orderIn (now (known .entry)) t) l s ⌝ }
 {
     if bits::has(sources, s) {
-        if bits::has(rows::row(known, t, s), l) {
+        if rows::precedes(known, t, s, l) {
             bits::inside_below(
                 rivals,
                 bits::with(rows::before_of(known, k, t, rivals, s), s),

@@ -1,8 +1,6 @@
 -- `rows::before_one_of` meets its contract. Assumes nothing.
-use Prim.Native.Nat.{ℕ}
 use borrow.Author.Needs.{needs}
 use Rattle.rows.specs.Sets.{orderIn}
-use Rattle.bits.specs.Bit.{bit}
 use mathlib.Core.Bool.{_&&_}
 use mathlib.Core.Path.{sym, ap, _∙_}
 use Rattle.rows.proofs.SetLaws.{so-set}
@@ -16,9 +14,9 @@ before-one-of-spec =
     (λ c κs. search needs)
     (λ c κs. search needs)
     (λ c κs. search needs)
-    (λ c κs. search needs)
     (λ c.
-    let s = c .before .before .before .before .args in
+    let b = c .before .before .before in
+    let s = b .args in
     so-set (c .where-so .ensures)
-    (c .before .before .has .ensures ∙ ap (λ (x : ℕ). bit x (s .b)) (c .before .before .before .row .ensures) ∙ ap (λ t. t && orderIn (s .rows .now) (s .p) (s .a) (s .b)) (sym (c .before .before .before .before .pre .1 .1 .1)))
+    (c .before .before .precedes .ensures ∙ ap (λ t. t && orderIn (s .rows .now) (s .p) (s .a) (s .b)) (sym (b .pre .1 .1 .1)))
     (c .before .alone .ensures)))

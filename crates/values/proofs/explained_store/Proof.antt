@@ -1,5 +1,4 @@
 -- `values::explained_store` meets its contract. Assumes nothing.
-use Prim.Native.Nat.{ℕ}
 use borrow.Author.Needs.{needs}
 use mathlib.Core.Path.{refl, sym, ap, _∙_}
 use mathlib.Core.Bool.{not, _&&_, _||_}
@@ -27,19 +26,18 @@ explained-store-spec =
     let s = c .before .before .before .before .before .args in
     same-value (bit (s .those) (s .s)) (some (s .k) (λ x. bit (s .between) x && orderIn (s .asked .now) (s .p) (s .s) x && not (eqb x (s .s)))) (equalIn (s .values .now) (s .l) (s .s)) (orderIn (s .asked .now) (s .p) (s .l) (s .s)) (sym (c .before .before .before .before .has .ensures) ∙ c .before .before .before .if1 .taken) (eq-eqb _ _ (c .if2 .taken)))
     (λ c κs. search needs)
+    (λ c.
+    let s = c .before .before .before .before .before .before .before .args in
+    load-first (bit (s .those) (s .s)) (some (s .k) (λ x. bit (s .between) x && orderIn (s .asked .now) (s .p) (s .s) x && not (eqb x (s .s)))) (equalIn (s .values .now) (s .l) (s .s)) (orderIn (s .asked .now) (s .p) (s .l) (s .s)) (sym (c .before .before .before .before .before .before .has .ensures) ∙ c .before .before .before .before .before .if1 .taken) (sym (c .before .precedes .ensures) ∙ c .if3 .taken))
+    (λ c κs. search needs)
+    (λ c κs. search needs)
+    (λ c κs. search needs)
     (λ c κs. search needs)
     (λ c.
-    let s = c .before .before .before .before .before .before .before .before .args in
-    load-first (bit (s .those) (s .s)) (some (s .k) (λ x. bit (s .between) x && orderIn (s .asked .now) (s .p) (s .s) x && not (eqb x (s .s)))) (equalIn (s .values .now) (s .l) (s .s)) (orderIn (s .asked .now) (s .p) (s .l) (s .s)) (sym (c .before .before .before .before .before .before .before .has .ensures) ∙ c .before .before .before .before .before .before .if1 .taken) (ap (λ (x : ℕ). bit x (s .s)) (sym (c .before .before .row .ensures)) ∙ sym (c .before .has2 .ensures) ∙ c .if3 .taken))
-    (λ c κs. search needs)
-    (λ c κs. search needs)
-    (λ c κs. search needs)
-    (λ c κs. search needs)
-    (λ c.
-    let s = c .before .before .before .before .before .before .before .before .before .before .before .before .args in
+    let s = c .before .before .before .before .before .before .before .before .before .before .before .args in
     c .any .ensures
-    ∙ some-set (s .k) (set-same (c .before .without .ensures) (λ e. ap (λ t. t && not (eqb e (s .s))) (set-as (c .before .before .both .ensures) (share (as-set refl) (as-set (c .before .before .before .row2 .ensures))) .has e)))
-    ∙ else-between (bit (s .those) (s .s)) (some (s .k) (λ x. bit (s .between) x && orderIn (s .asked .now) (s .p) (s .s) x && not (eqb x (s .s)))) (equalIn (s .values .now) (s .l) (s .s)) (orderIn (s .asked .now) (s .p) (s .l) (s .s)) (sym (c .before .before .before .before .before .before .before .before .before .before .before .has .ensures) ∙ c .before .before .before .before .before .before .before .before .before .before .if1 .taken) (ne-eqb _ _ (c .before .before .before .before .before .before .before .if2 .left)) (ap (λ (x : ℕ). bit x (s .s)) (sym (c .before .before .before .before .before .before .row .ensures)) ∙ sym (c .before .before .before .before .before .has2 .ensures) ∙ c .before .before .before .before .if3 .left))
+    ∙ some-set (s .k) (set-same (c .before .without .ensures) (λ e. ap (λ t. t && not (eqb e (s .s))) (set-as (c .before .before .both .ensures) (share (as-set refl) (as-set (c .before .before .before .row .ensures))) .has e)))
+    ∙ else-between (bit (s .those) (s .s)) (some (s .k) (λ x. bit (s .between) x && orderIn (s .asked .now) (s .p) (s .s) x && not (eqb x (s .s)))) (equalIn (s .values .now) (s .l) (s .s)) (orderIn (s .asked .now) (s .p) (s .l) (s .s)) (sym (c .before .before .before .before .before .before .before .before .before .before .has .ensures) ∙ c .before .before .before .before .before .before .before .before .before .if1 .taken) (ne-eqb _ _ (c .before .before .before .before .before .before .if2 .left)) (sym (c .before .before .before .before .before .precedes .ensures) ∙ c .before .before .before .before .if3 .left))
     (λ c.
     let s = c .before .before .args in
     imp-not (bit (s .those) (s .s)) (some (s .k) (λ x. bit (s .between) x && orderIn (s .asked .now) (s .p) (s .s) x && not (eqb x (s .s))) || equalIn (s .values .now) (s .l) (s .s) || orderIn (s .asked .now) (s .p) (s .l) (s .s)) (sym (c .before .has .ensures) ∙ c .if1 .left)))

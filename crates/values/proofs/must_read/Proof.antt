@@ -1,7 +1,6 @@
 -- `values::must_read` meets its contract. Assumes nothing.
-use Prim.Native.Nat.{ℕ}
 use borrow.Author.Needs.{needs}
-use mathlib.Core.Path.{refl, sym, ap, _∙_}
+use mathlib.Core.Path.{refl, sym, _∙_}
 use mathlib.Core.Bool.{not, _&&_}
 use lib.Dec.{eqb}
 use Rattle.finite.specs.Tests.{all, _⇒_}
@@ -21,16 +20,15 @@ must-read-spec =
     (λ c κs. search needs)
     (λ c κs. search needs)
     (λ c κs. search needs)
-    (λ c κs. search needs)
     (λ c.
-    let s = c .before .before .before .before .before .before .before .before .args in
+    let s = c .before .before .before .before .before .before .before .args in
     c .inside-below .ensures
     ∙ inside-set (s .k) (as-set refl) (set-with (s .s) (c .before .with .ensures) (c .before .before .before-of .ensures))
     ∙ read-all (s .k) (bit (s .rivals)) (orderIn (s .known .now) (s .t)) (s .s)
-    ∙ and-both (bit (s .sources) (s .s)) (orderIn (s .known .now) (s .t) (s .s) (s .l)) (all (s .k) (λ x. (bit (s .rivals) x && not (eqb x (s .s))) ⇒ orderIn (s .known .now) (s .t) x (s .s))) (sym (c .before .before .before .before .before .before .before .has .ensures) ∙ c .before .before .before .before .before .before .if1 .taken) (ap (λ (x : ℕ). bit x (s .l)) (sym (c .before .before .before .before .before .row .ensures)) ∙ sym (c .before .before .before .before .has2 .ensures) ∙ c .before .before .before .if2 .taken))
+    ∙ and-both (bit (s .sources) (s .s)) (orderIn (s .known .now) (s .t) (s .s) (s .l)) (all (s .k) (λ x. (bit (s .rivals) x && not (eqb x (s .s))) ⇒ orderIn (s .known .now) (s .t) x (s .s))) (sym (c .before .before .before .before .before .before .has .ensures) ∙ c .before .before .before .before .before .if1 .taken) (sym (c .before .before .before .before .precedes .ensures) ∙ c .before .before .before .if2 .taken))
     (λ c.
-    let s = c .before .before .before .before .before .args in
-    and-second (bit (s .sources) (s .s)) (orderIn (s .known .now) (s .t) (s .s) (s .l)) (all (s .k) (λ x. (bit (s .rivals) x && not (eqb x (s .s))) ⇒ orderIn (s .known .now) (s .t) x (s .s))) (sym (c .before .before .before .before .has .ensures) ∙ c .before .before .before .if1 .taken) (ap (λ (x : ℕ). bit x (s .l)) (sym (c .before .before .row .ensures)) ∙ sym (c .before .has2 .ensures) ∙ c .if2 .left))
+    let s = c .before .before .before .before .args in
+    and-second (bit (s .sources) (s .s)) (orderIn (s .known .now) (s .t) (s .s) (s .l)) (all (s .k) (λ x. (bit (s .rivals) x && not (eqb x (s .s))) ⇒ orderIn (s .known .now) (s .t) x (s .s))) (sym (c .before .before .before .has .ensures) ∙ c .before .before .if1 .taken) (sym (c .before .precedes .ensures) ∙ c .if2 .left))
     (λ c.
     let s = c .before .before .args in
     and-first (bit (s .sources) (s .s)) (orderIn (s .known .now) (s .t) (s .s) (s .l)) (all (s .k) (λ x. (bit (s .rivals) x && not (eqb x (s .s))) ⇒ orderIn (s .known .now) (s .t) x (s .s))) (sym (c .before .has .ensures) ∙ c .if1 .left)))

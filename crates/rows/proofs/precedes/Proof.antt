@@ -1,10 +1,10 @@
--- `orders::precedes` meets its contract. Assumes nothing.
+-- `rows::precedes` meets its contract. Assumes nothing.
 use Prim.Native.Nat.{ℕ}
 use borrow.Author.Needs.{needs}
 use mathlib.Core.Path.{ap, _∙_}
 use Rattle.bits.specs.Bit.{bit}
-use Rattle.orders.proofs.precedes.Statement.{statement}
-use Rattle.orders.proofs.precedes.Tie as tie
+use Rattle.rows.proofs.precedes.Statement.{statement}
+use Rattle.rows.proofs.precedes.Tie as tie
 
 pub precedes-spec : {M : Type 1} → statement M
 precedes-spec =
