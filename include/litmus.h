@@ -3,7 +3,8 @@
  *
  * A record is one candidate execution in bytes; docs/FORMAT.md describes it. Each call looks at
  * the record that starts at the first byte it is handed and reads no further than that record
- * ends, so records may lie back to back.
+ * ends, so records may lie back to back. There are two editions of records, and every call takes
+ * both: edition 2 has lwsyncs and dependencies. A barrier is a sync or an lwsync.
  *
  * Any bytes, any sizes, models, permutations and places are fine: there is an answer for each.
  * A size or room of 0 is fine, but the pointer that goes with it must not be NULL. No call keeps a
@@ -19,6 +20,13 @@
 extern "C" {
 #endif
 
+/* The most bytes of a record of each edition, and of any record. */
+enum {
+    LITMUS_EDITION_1_BYTES = 4833,
+    LITMUS_EDITION_2_BYTES = 5120,
+    LITMUS_RECORD_BYTES = LITMUS_EDITION_2_BYTES
+};
+
 /* The models. */
 enum {
     LITMUS_PPCW = 0, /* rules 15 and 16 for each thread's own loads */
@@ -31,26 +39,31 @@ enum {
  *             1  the bytes end inside a number or the name
  *             2  a number has too many groups, or is not in its shortest form
  *             3  a number is outside its range
- *             4  a write order entry is not a store to that address or was listed before, or a
- *                pair is not above the pair before it
+ *             4  a dependency is not one that the events allow or not above the one before it, a
+ *                write order entry is not a store to that address or was listed before, or a pair
+ *                is not above the pair before it
  *             5  not a permutation number, or it does not map the case's labels onto themselves
  *             6  the buffer has too few bytes from the given place, or the place is past its end
  *             7  no such model
  *            11  a thread's order is not irreflexive and transitive
  *            12  a thread's order leaves two of its own events unordered
- *            13  a thread's order breaks its program order at a sync or on one address
+ *            13  a thread's order breaks its program order at a barrier, on one address or
+ *                against a dependency
  *            14  a thread's order of two stores to one address is not the write order's
  *            15  a load does not hold the initial value, and no store to its address comes
  *                before it
  *            16  a load holds another value than some store to its address, does not come
  *                before it, and no other store lies between
- *            17  an event before a sync and an event after it on its thread are not in that
- *                order for every thread
- *            18  an event before a sync and an event after a load of a store behind the sync
+ *            17  two events that a barrier orders, one before it and one after it on its thread,
  *                are not in that order for every thread
+ *            18  two events that a barrier orders, one before it and one after a load of a store
+ *                behind it, are not in that order for every thread
+ *          A sync orders any two events; an lwsync orders loads and stores, but not a store
+ *          before a load.
  *          Where several rules are broken, the lowest is given.
- * place    under 1 to 4, the byte where the faulty number starts (of a pair: its first number;
- *          of a name that is cut short: its first byte); otherwise 0
+ * place    under 1 to 4, the byte where the faulty number starts (under 4, of a pair: its first
+ *          number, of a dependency: its class; of a name that is cut short: its first byte);
+ *          otherwise 0
  * length   under 0 and 11 to 18, how many bytes the record takes; otherwise 0
  * finals   of litmus_judge under 0, what each address holds at the end, and 0 for addresses that
  *          the case does not have; otherwise all 0
@@ -79,8 +92,9 @@ litmus_answer litmus_judge(const uint8_t *record, size_t size, uint64_t model);
 
 /*
  * Writes the record, its threads and addresses renumbered, into out from the byte `at` onward: 0
- * with the length, which is also the old record's. Permutations of the labels 0 to 3 are numbered
- * 0 (0123) to 23 (3210) in dictionary order; "1230" sends 0 to 1.
+ * with the length, which is also the old record's. LITMUS_RECORD_BYTES are room for any record.
+ * Permutations of the labels 0 to 3 are numbered 0 (0123) to 23 (3210) in dictionary order; "1230"
+ * sends 0 to 1.
  *
  * Checked in this order: the record (1 to 4), threads (5), addresses (5), room (6). Only the
  * record's bytes are written; under a refusal none is. out and record must be different buffers

@@ -19,7 +19,7 @@ static void judge(const char *model_name, uint64_t model, const uint8_t *record,
 
 int main(int count, char **words)
 {
-    static uint8_t record[65536]; /* more than a record takes */
+    static uint8_t record[LITMUS_RECORD_BYTES]; /* the file's first record fits */
     FILE *file = count == 2 ? fopen(words[1], "rb") : NULL;
     size_t size;
     litmus_part name;

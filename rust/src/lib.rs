@@ -2,6 +2,8 @@
 //!
 //! This is a thin, safe wrapper: the work is done by the proved library in the archive
 //! `liblitmus.a`. A record is one candidate execution in bytes; `docs/FORMAT.md` describes it.
+//! There are two editions of records, and every function takes both: edition 2 has lwsyncs and
+//! dependencies.
 //!
 //! ```
 //! use litmus::{judge, Model, Verdict};
@@ -34,6 +36,17 @@
 
 use std::fmt;
 
+/// The edition without lwsyncs and dependencies.
+pub const EDITION_1: u32 = 1;
+/// The edition with lwsyncs and dependencies.
+pub const EDITION_2: u32 = 2;
+/// The most bytes of a record of edition 1, as in `litmus.h`.
+pub const EDITION_1_BYTES: usize = 4_833;
+/// The most bytes of a record of edition 2, as in `litmus.h`.
+pub const EDITION_2_BYTES: usize = 5_120;
+/// The most bytes of a record: a buffer of this length takes any.
+pub const RECORD_BYTES: usize = EDITION_2_BYTES;
+
 /// How many addresses an answer has final values for, as in `litmus.h`.
 pub const FINALS: usize = 4;
 /// The most threads of a case, as in `litmus.h`.
@@ -50,7 +63,7 @@ pub type Rows = [u64; THREADS * EVENTS];
 pub enum Model {
     /// Rules 15 and 16 speak of each thread's own loads.
     PpcW = 0,
-    /// Rules 15 and 16 speak of every load that a thread's order mentions.
+    /// Rules 15 and 16 speak of every load of the thread or in its order.
     PpcS = 1,
 }
 
@@ -92,18 +105,18 @@ pub fn meaning(number: u32) -> &'static str {
         1 => "the bytes end inside a number or the name",
         2 => "a number has too many groups, or is not in its shortest form",
         3 => "a number is outside its range",
-        4 => "a write order entry or a pair may not stand there",
+        4 => "a dependency, a write order entry or a pair may not stand there",
         5 => "not a permutation of the case's labels",
         6 => "too little room in the buffer from the given place",
         7 => "no such model",
         11 => "a thread's order is not irreflexive and transitive",
         12 => "a thread's order leaves two of its own events unordered",
-        13 => "a thread's order breaks its program order at a sync or on one address",
+        13 => "a thread's order breaks its program order at a barrier, on one address or against a dependency",
         14 => "a thread's order of two stores to one address is not the write order's",
         15 => "a load does not hold the initial value, and no store to its address comes before it",
         16 => "a load holds another value than some store to its address, does not come before it, and no other store lies between",
-        17 => "an event before a sync and an event after it on its thread are not in that order for every thread",
-        18 => "an event before a sync and an event after a load of a store behind the sync are not in that order for every thread",
+        17 => "two events that a barrier orders, one before it and one after it on its thread, are not in that order for every thread",
+        18 => "two events that a barrier orders, one before it and one after a load of a store behind it, are not in that order for every thread",
         _ => "no such number",
     }
 }

@@ -40,6 +40,14 @@ fn prints_what_the_library_answers() {
             "a\nPPCw: possible, finals 1 0 0 0\nPPCs: possible, finals 1 0 0 0\n",
         ),
         (
+            "sb-lwsync.litmus",
+            "SB lwsync\nPPCw: possible, finals 1 1 0 0\nPPCs: possible, finals 1 1 0 0\n",
+        ),
+        (
+            "mp-dependency.litmus",
+            "MP dependency\nPPCw: not possible, rule 13\nPPCs: not possible, rule 13\n",
+        ),
+        (
             "README.md",
             "\nPPCw: refused with 3 at byte 0\nPPCs: refused with 3 at byte 0\n",
         ),

@@ -5,9 +5,10 @@ mod common;
 use common::plain;
 use ordinary::generate;
 use ordinary::judge::{judge, printed_verdict, PPCS, PPCW};
-use ordinary::limits::EVENTS;
+use ordinary::judge::{verdict_with_syncs, verdict_without_dependencies};
+use ordinary::limits::{EDITIONS, EVENTS};
 use ordinary::random::Random;
-use ordinary::tally::{model_name, Tally};
+use ordinary::tally::{heading, model_name, stated_edition, Tally};
 use ordinary::{read, rows, write};
 
 const INPUTS: usize = 200_000;
@@ -19,16 +20,47 @@ fn compare(record: &[u8], model: u64) -> u32 {
     expected.number
 }
 
-/// Counts an answer that would be another one if a thread saw no more than its pairs. Under PPCw
-/// there is none, and under PPCs it is 15 or 16.
-fn add_change(changes: &mut Tally, record: &[u8], model: u64, number: u32) {
-    let Ok(reading) = read::read(record) else {
-        return;
-    };
-    if printed_verdict(&reading.case, model) != number {
-        assert_eq!(model, PPCS, "{record:?}");
-        assert!((15..=16).contains(&number), "{record:?}");
-        changes.add(model_name(model), number);
+/// Counts of answers that would be other ones under other rules.
+#[derive(Default)]
+struct Changes {
+    own_events: Tally,
+    lwsyncs: Tally,
+    dependencies: Tally,
+}
+
+impl Changes {
+    fn add(&mut self, record: &[u8], model: u64, number: u32) {
+        let Ok(reading) = read::read(record) else {
+            return;
+        };
+        let case = &reading.case;
+        // Under PPCw there is none, and under PPCs it is 15 or 16.
+        if printed_verdict(case, model) != number {
+            assert_eq!(model, PPCS, "{record:?}");
+            assert!((15..=16).contains(&number), "{record:?}");
+            self.own_events.add(model_name(model), number);
+        }
+        let with_syncs = verdict_with_syncs(case, model);
+        if with_syncs != number {
+            self.lwsyncs.add(model_name(model), with_syncs);
+        }
+        if verdict_without_dependencies(case, model) != number {
+            self.dependencies.add(model_name(model), number);
+        }
+    }
+
+    fn assert_enough(&self) {
+        println!(
+            "answers that a thread's own events in V(p) change:\n{}",
+            self.own_events
+        );
+        self.own_events.assert_each(model_name(PPCS), 15..=16, 20);
+        println!("other answers if lwsyncs were syncs:\n{}", self.lwsyncs);
+        println!("answers that dependencies change:\n{}", self.dependencies);
+        for model in [PPCW, PPCS] {
+            self.lwsyncs.assert_each(model_name(model), 17..=18, 20);
+            self.dependencies.assert_each(model_name(model), [13], 20);
+        }
     }
 }
 
@@ -36,23 +68,25 @@ fn add_change(changes: &mut Tally, record: &[u8], model: u64, number: u32) {
 fn generated_inputs() {
     let mut random = Random::new(20);
     let mut tally = Tally::default();
-    let mut changes = Tally::default();
+    let mut changes = Changes::default();
     for _ in 0..INPUTS {
         let record = generate::any_record(&mut random);
+        let edition = stated_edition(&record);
         let numbers = [PPCW, PPCS].map(|model| {
             let number = compare(&record, model);
-            tally.add(model_name(model), number);
-            add_change(&mut changes, &record, model, number);
+            tally.add(heading(edition, model), number);
+            changes.add(&record, model, number);
             number
         });
         assert!(numbers[1] != 0 || numbers[0] == 0, "{record:?}");
         let other = random.any_number();
-        tally.add(model_name(other), compare(&record, other));
+        tally.add(heading(edition, other), compare(&record, other));
+        tally.add_unfit(&record);
     }
     println!("how often each number came up in {INPUTS} inputs:\n{tally}");
     tally.assert_judged(100);
-    println!("answers that a thread's own events in V(p) change:\n{changes}");
-    changes.assert_each(model_name(PPCS), 15..=16, 20);
+    tally.assert_unfit(100);
+    changes.assert_enough();
 }
 
 /// Accepted executions of every size, as they are and a little off.
@@ -60,8 +94,9 @@ fn generated_inputs() {
 fn every_size() {
     let mut random = Random::new(21);
     for count in 0..=EVENTS {
-        for _ in 0..40 {
-            let case = generate::full(&mut random, count);
+        for i in 0..80 {
+            let edition = EDITIONS[i % EDITIONS.len()];
+            let case = generate::full(&mut random, edition, count);
             let record = write::record(&case);
             assert_eq!([PPCW, PPCS].map(|model| compare(&record, model)), [0, 0]);
             let record = write::record(&generate::off(&mut random, case));
@@ -77,7 +112,12 @@ fn every_size() {
 #[test]
 fn other_models() {
     for model in [PPCS + 1, 1 << 32, u64::MAX - 1, u64::MAX] {
-        for record in [&[][..], &[9, 9], &[1, 1, 1, 0, 0, 0, 0]] {
+        for record in [
+            &[][..],
+            &[9, 9],
+            &[1, 1, 1, 0, 0, 0, 0],
+            &[2, 1, 1, 0, 0, 0, 0, 0],
+        ] {
             assert_eq!(compare(record, model), ordinary::answer::MODEL);
         }
     }

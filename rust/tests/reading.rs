@@ -5,9 +5,9 @@ mod common;
 use common::plain;
 use litmus::Part;
 use ordinary::generate::{self, damaged};
-use ordinary::limits::EVENTS;
+use ordinary::limits::{most_bytes, EDITIONS, EVENTS, FIRST, SECOND};
 use ordinary::random::Random;
-use ordinary::tally::Tally;
+use ordinary::tally::{edition_name, stated_edition, Tally};
 use ordinary::{read, write, Answer};
 
 /// Reads with both, compares all that they give, and hands back the number.
@@ -24,24 +24,36 @@ fn compare(bytes: &[u8]) -> u32 {
     } else if !name.is_empty() {
         assert_eq!(part.at + part.length, expected.length as u64, "{bytes:?}");
     }
+    assert!(
+        expected.length <= most_bytes(stated_edition(bytes)),
+        "{bytes:?}"
+    );
     expected.number
 }
 
-/// A few dozen records of up to some hundred bytes.
+/// Two dozen records of each edition, of up to some hundred bytes. Those of the second have lwsyncs
+/// and dependencies.
 fn records() -> Vec<Vec<u8>> {
     let mut random = Random::new(10);
     let mut all = Vec::new();
-    while all.len() < 48 {
-        let record = write::record(&generate::any_case(&mut random));
-        if (20..400).contains(&record.len()) {
-            all.push(record);
+    for edition in EDITIONS {
+        let mut count = 0;
+        while count < 24 {
+            let case = generate::any_case(&mut random);
+            let record = write::record(&case);
+            let both = case.has_lwsync() && case.dependencies().len() > 1;
+            let fit = edition == FIRST || both;
+            if case.edition == edition && fit && (20..400).contains(&record.len()) {
+                all.push(record);
+                count += 1;
+            }
         }
     }
     all
 }
 
-fn full_record(random: &mut Random) -> Vec<u8> {
-    let mut case = generate::full(random, EVENTS);
+fn full_record(random: &mut Random, edition: u32) -> Vec<u8> {
+    let mut case = generate::full(random, edition, EVENTS);
     case.name = b"full".to_vec();
     write::record(&case)
 }
@@ -50,7 +62,7 @@ fn full_record(random: &mut Random) -> Vec<u8> {
 fn every_truncation() {
     let mut random = Random::new(11);
     let mut all = records();
-    all.push(full_record(&mut random));
+    all.extend(EDITIONS.map(|edition| full_record(&mut random, edition)));
     for record in all {
         assert_eq!(compare(&record), 0);
         for size in 0..record.len() {
@@ -63,24 +75,29 @@ fn every_truncation() {
 fn every_byte_changed() {
     let mut tally = Tally::default();
     for mut record in records() {
+        let heading = edition_name(stated_edition(&record));
         for at in 0..record.len() {
             let old = record[at];
             for byte in 0..=u8::MAX {
                 record[at] = byte;
-                tally.add("reading", compare(&record));
+                tally.add(heading, compare(&record));
+                tally.add_unfit(&record);
             }
             record[at] = old;
         }
     }
     println!("{tally}");
-    tally.assert_each("reading", 0..=4, 1_000);
+    for edition in EDITIONS {
+        tally.assert_each(edition_name(edition), 0..=4, 1_000);
+    }
+    tally.assert_unfit(20);
 }
 
 #[test]
 fn some_bytes_of_a_full_record_changed() {
     let mut random = Random::new(12);
-    for _ in 0..20 {
-        let mut record = full_record(&mut random);
+    for i in 0..20 {
+        let mut record = full_record(&mut random, EDITIONS[i % EDITIONS.len()]);
         for at in 0..record.len() {
             let old = record[at];
             for byte in [0, old.wrapping_add(1), old ^ 128, random.byte()] {
@@ -95,12 +112,28 @@ fn some_bytes_of_a_full_record_changed() {
 #[test]
 fn damaged_and_random_bytes() {
     let mut random = Random::new(13);
+    let mut tally = Tally::default();
     for _ in 0..50_000 {
         let case = generate::any_case(&mut random);
-        compare(&damaged(&mut random, &case));
+        let bytes = damaged(&mut random, &case);
+        compare(&bytes);
+        tally.add_unfit(&bytes);
         let size = random.below(30);
         compare(&random.bytes(size));
-        let small: Vec<u8> = (0..size).map(|_| random.below(3) as u8).collect();
+        let small: Vec<u8> = (0..size).map(|_| random.below(4) as u8).collect();
         compare(&small);
+    }
+    println!("{tally}");
+    tally.assert_unfit(100);
+}
+
+/// The greatest record of each edition can be read, and the limits name its length.
+#[test]
+fn greatest_records() {
+    for (edition, length) in [(FIRST, 4_833), (SECOND, 5_120)] {
+        let record = write::record(&generate::greatest(edition));
+        assert_eq!(record.len(), length);
+        assert_eq!(most_bytes(edition), length);
+        assert_eq!(compare(&record), 0);
     }
 }

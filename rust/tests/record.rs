@@ -23,16 +23,19 @@ fn record(words: &[&Path], text: &str) -> Output {
     child.wait_with_output().expect("it ends")
 }
 
+/// One of each edition.
 #[test]
-fn makes_the_example() {
-    let expected = fs::read(example("dekker.litmus")).expect("an example");
-    let text = example("dekker.txt");
-    assert_eq!(record(&[&text], "").stdout, expected);
-    let source = fs::read_to_string(&text).expect("a text");
-    assert_eq!(record(&[], &source).stdout, expected);
-    let target = Path::new(env!("CARGO_TARGET_TMPDIR")).join("made.litmus");
-    assert!(record(&[&text, &target], "").status.success());
-    assert_eq!(fs::read(target).expect("it was made"), expected);
+fn makes_the_examples() {
+    for name in ["dekker", "hoist-dependency"] {
+        let expected = fs::read(example(&format!("{name}.litmus"))).expect("an example");
+        let text = example(&format!("{name}.txt"));
+        assert_eq!(record(&[&text], "").stdout, expected);
+        let source = fs::read_to_string(&text).expect("a text");
+        assert_eq!(record(&[], &source).stdout, expected);
+        let target = Path::new(env!("CARGO_TARGET_TMPDIR")).join("made.litmus");
+        assert!(record(&[&text, &target], "").status.success());
+        assert_eq!(fs::read(target).expect("it was made"), expected);
+    }
 }
 
 #[test]
@@ -42,6 +45,21 @@ fn says_what_is_wrong() {
     assert_eq!(
         String::from_utf8_lossy(&output.stderr),
         "standard input: line 3: no address is named 'z' (there are: x)\n"
+    );
+    let output = record(
+        &[],
+        "threads 1\naddresses x\nevent load 0 x=0\nevent load 0 x=0\ndependency data 0 1\n",
+    );
+    assert!(!output.status.success() && output.stdout.is_empty());
+    assert_eq!(
+        String::from_utf8_lossy(&output.stderr),
+        "standard input: line 5: from event 0 to event 1: only a store can depend on a load by data or control\n"
+    );
+    let output = record(&[], "edition 1\nthreads 1\naddresses x\nevent lwsync 0\n");
+    assert!(!output.status.success() && output.stdout.is_empty());
+    assert_eq!(
+        String::from_utf8_lossy(&output.stderr),
+        "standard input: line 4: edition 1 has no lwsync\n"
     );
     assert!(!record(&[Path::new("no such file")], "").status.success());
     let three = [Path::new("a"); 3];

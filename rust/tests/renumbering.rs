@@ -6,11 +6,11 @@ use common::plain;
 use ordinary::answer::{MODEL, PERMUTATION, ROOM};
 use ordinary::generate;
 use ordinary::judge::{judge, RULES};
-use ordinary::limits::{ADDRESSES, RECORD};
+use ordinary::limits::{most_bytes, ADDRESSES, EDITIONS, SECOND};
 use ordinary::permutation::{composite, fits, images, COUNT};
 use ordinary::random::Random;
 use ordinary::renumber::{moved, relabel, renumber};
-use ordinary::tally::Tally;
+use ordinary::tally::{edition_name, Tally};
 use ordinary::{write, Answer, Case};
 
 const LISTS: usize = 20_000;
@@ -157,20 +157,38 @@ fn any_buffer(random: &mut Random, length: usize) -> (Vec<u8>, u64) {
 fn lists_of_calls() {
     let mut random = Random::new(30);
     let mut tally = Tally::default();
+    let mut moved = Tally::default();
     for _ in 0..LISTS {
         let mut list = List::new(&mut random);
+        let [judging, renumbering] = headings(list.case.edition);
         for _ in 0..random.below(MOST_CALLS + 1) {
             match random.once_in(2) {
-                true => tally.add("judging", list.judge(&mut random)),
-                false => tally.add("renumbering", list.renumber(&mut random)),
+                true => tally.add(judging, list.judge(&mut random)),
+                false => tally.add(renumbering, list.renumber(&mut random)),
             }
         }
         assert_eq!(list.record, list.by_the_rule());
+        if list.record != list.start {
+            let both = list.case.has_lwsync() && !list.case.dependencies().is_empty();
+            moved.add(edition_name(list.case.edition), u32::from(both));
+        }
     }
     println!("{LISTS} lists of calls:\n{tally}");
-    tally.assert_each("renumbering", [0, PERMUTATION, ROOM], 1_000);
-    tally.assert_each("judging", [0, MODEL], 1_000);
-    tally.assert_each("judging", RULES, 50);
+    for edition in EDITIONS {
+        let [judging, renumbering] = headings(edition);
+        tally.assert_each(renumbering, [0, PERMUTATION, ROOM], 1_000);
+        tally.assert_each(judging, [0, MODEL], 1_000);
+        tally.assert_each(judging, RULES, 50);
+    }
+    println!("lists that change the record; 1: it has an lwsync and a dependency:\n{moved}");
+    moved.assert_each(edition_name(SECOND), [0, 1], 500);
+}
+
+fn headings(edition: u32) -> [&'static str; 2] {
+    match edition {
+        SECOND => ["judging edition 2", "renumbering edition 2"],
+        _ => ["judging edition 1", "renumbering edition 1"],
+    }
 }
 
 /// Records as they come, damaged ones too: all answers and the whole buffer agree.
@@ -180,7 +198,7 @@ fn any_bytes() {
     for _ in 0..40_000 {
         let record = generate::any_record(&mut random);
         let [q, r] = [0; 2].map(|_| random.any_number());
-        let room = record.len().min(RECORD) + 4;
+        let room = record.len().min(most_bytes(SECOND)) + 4;
         let mut expected = random.bytes(room);
         let mut out = expected.clone();
         let at = random.below(6);

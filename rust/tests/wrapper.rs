@@ -3,8 +3,11 @@
 use litmus::{judge, judge_raw, meaning, read, read_raw, renumber, Model, Refusal, Rule, Verdict};
 use ordinary::generate;
 use ordinary::judge::RULES;
+use ordinary::limits::{most_bytes, EDITIONS, FIRST, SECOND};
 use ordinary::random::Random;
 use std::collections::BTreeSet;
+
+const HEADER: &str = include_str!("../../include/litmus.h");
 
 const SMALL: &[u8] = include_bytes!("../../examples/small.litmus");
 
@@ -14,6 +17,33 @@ fn every_number_has_its_own_words() {
     let words: BTreeSet<&str> = numbers.clone().map(meaning).collect();
     assert_eq!(words.len(), numbers.count());
     assert!([8, 10, 19].iter().all(|&n| !words.contains(meaning(n))));
+}
+
+/// Here and in the header.
+#[test]
+fn limits_of_records() {
+    assert_eq!(EDITIONS, [litmus::EDITION_1, litmus::EDITION_2]);
+    let bytes = [FIRST, SECOND].map(most_bytes);
+    assert_eq!(bytes, [litmus::EDITION_1_BYTES, litmus::EDITION_2_BYTES]);
+    assert_eq!(
+        litmus::RECORD_BYTES,
+        most_bytes(FIRST).max(most_bytes(SECOND))
+    );
+    let [first, second] = bytes;
+    assert!(HEADER.contains(&format!("LITMUS_EDITION_1_BYTES = {first},")));
+    assert!(HEADER.contains(&format!("LITMUS_EDITION_2_BYTES = {second},")));
+    assert!(HEADER.contains("LITMUS_RECORD_BYTES = LITMUS_EDITION_2_BYTES\n"));
+}
+
+/// A buffer of the most bytes takes any record.
+#[test]
+fn the_greatest_record_fits() {
+    for edition in EDITIONS {
+        let record = ordinary::write::record(&generate::greatest(edition));
+        let mut out = [0; litmus::RECORD_BYTES];
+        assert_eq!(renumber(&record, 0, 0, &mut out, 0), Ok(record.len()));
+        assert_eq!(out[..record.len()], record);
+    }
 }
 
 #[test]

@@ -13,10 +13,10 @@ use Rattle.finite.specs.Tests.{all}
 use Rattle.finite.specs.Lists.{table}
 use Rattle.finite.proofs.Tests.{iff, and-l, and-r, and-i, all-get, all-make}
 use Rattle.model.specs.Limits.{mostValue}
-use Rattle.model.specs.Case.{mostKind, bare}
+use Rattle.model.specs.Case.{Dependency, mostKind, bare}
 use Rattle.model.specs.Rules.{orElse}
-use Rattle.model.specs.Record.{member}
-use Rattle.model.specs.Fault.{every, eventGood, firstFault, writeFault, writesFault}
+use Rattle.model.specs.Record.{dependencyRank, member}
+use Rattle.model.specs.Fault.{every, eventGood, firstFault, dependencyWithin, dependencyFault, writeFault, writesFault}
 use Rattle.case.specs.Held.{eventOf}
 use Rattle.case.proofs.Events.{event-by}
 
@@ -53,10 +53,20 @@ module _ {A : Type 0} (f : A → Bool) where
       (λ h. every-make 0 j g (λ y l. let s : 0 + y ≡ y = omega arith in rw s (all-get j (λ y. f (g y)) h y l)))
 
 -- an event by its numbers
-pub event-good : (n m k t a v : ℕ)
-    → eventGood n m (eventOf k t a v) ≡ (leb k mostKind && ltb t n && (bare k || (ltb a m && leb v mostValue)))
+pub event-good : (edition n m k t a v : ℕ)
+    → eventGood edition n m (eventOf k t a v) ≡ (leb k (mostKind edition) && ltb t n && (bare k || (ltb a m && leb v mostValue)))
 unfolding eventGood
-event-good n m k t a v = event-by (λ e. eventGood n m e ≡ (leb k mostKind && ltb t n && (bare k || (ltb a m && leb v mostValue)))) k t a v (λ h. rw h) (λ h. refl)
+event-good edition n m k t a v = event-by (λ e. eventGood edition n m e ≡ (leb k (mostKind edition) && ltb t n && (bare k || (ltb a m && leb v mostValue)))) k t a v (λ h. rw h) (λ h. refl)
+
+-- dependencies without fault are among the events
+pub links-none : (k : ℕ) (good : Dependency → Bool) (least : ℕ) (ds : List Dependency) → dependencyFault k good least ds ≡ 0
+    → (d : Dependency) (i : ℕ) → i < length ds → dependencyWithin k (getD ds i d) ≡ true
+unfolding dependencyFault
+links-none k good least [] h d i l = absurd (not-suc-le-zero l)
+links-none k good least (x ∷ ds) h d zero l = else-none (dependencyWithin k x) 2 _ h .0
+links-none k good least (x ∷ ds) h d (suc i) l =
+    links-none k good (dependencyRank k x + 1) ds
+    (else-none (leb least (dependencyRank k x) && good x) 3 _ (else-none (dependencyWithin k x) 2 _ h .1) .1) d i (le-of-suc-le-suc l)
 
 -- a write order without fault lists events
 pub write-none : (k : ℕ) (mine : ℕ → Bool) (before w : List ℕ) → writeFault k mine before w ≡ 0 → (i : ℕ) → i < length w → getD w i 0 < k

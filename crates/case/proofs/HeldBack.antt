@@ -4,7 +4,7 @@ use Prim.Native.Nat.{ℕ, zero, suc, _+_, _*_, _%_, _^_, _≤_, _<_}
 use native.Mathlib.Nat.{zero-add, zero-mul, not-suc-le-zero, le-of-suc-le-suc, mod-eq-of-lt}
 use native.Mathlib.Omega.{arith}
 use mathlib.Core.Path.{_≡_, refl, ap, sym, _∙_}
-use mathlib.Core.Bool.{true}
+use mathlib.Core.Bool.{Bool, true, false, cond}
 use mathlib.Core.List.{List, [], _∷_, _++_, map, append-assoc}
 use lib.ListN.{length, getD, length-map, List·getD-append}
 use lib.Seq.{getD-append-add}
@@ -12,12 +12,12 @@ use Rattle.finite.specs.Tests.{count}
 use Rattle.finite.specs.Lists.{table}
 use Rattle.finite.proofs.Tests.{count-le}
 use Rattle.finite.proofs.Lists.{table-same, as-table}
-use Rattle.model.specs.Limits.{mostAddresses, mostEvents, mostName}
+use Rattle.model.specs.Limits.{second, mostAddresses, mostEvents, mostDependencies, mostName}
 use Rattle.model.specs.Case.{Case, Event, noEvent, bare}
 use Rattle.model.specs.Record.{storeTo}
 use Rattle.laws.proofs.Fits.{EventFits, Fits}
 use Rattle.laws.proofs.AllFrom.{all-at, from-at, writes-from}
-use Rattle.case.specs.Held.{pad, rowsOf, held, eventOf, eventsOf, caseOf}
+use Rattle.case.specs.Held.{pad, rowsOf, held, eventOf, eventsOf, link, linkCount, linksOf, caseOf}
 use Rattle.case.proofs.Events.{event-by}
 use Rattle.case.proofs.Pad.{length-pad, pad-get}
 
@@ -26,6 +26,7 @@ pub record Holds (c : Case) : Type 0 where
   pub initials : length (c .initials) ≡ c .m
   pub events : length (c .events) ≡ c .k
   pub bares : (e : ℕ) → e < c .k → bare (getD (c .events) e noEvent .kind) ≡ true → (getD (c .events) e noEvent .address ≡ 0) × (getD (c .events) e noEvent .value ≡ 0)
+  pub no-links : second (c .edition) ≡ false → c .dependencies ≡ []
   pub writes : length (c .writes) ≡ c .m
   pub written : (x : ℕ) → x < c .m → length (getD (c .writes) x []) ≡ count (c .k) (storeTo (c .events) x)
   pub few : c .k ≤ mostEvents
@@ -37,11 +38,11 @@ pub record Holds (c : Case) : Type 0 where
 back : {A : Type 0} (l : List A) (d : A) (j : ℕ) (f : ℕ → A) → length l ≡ j → ((i : ℕ) → i < j → f i ≡ getD l i d) → table 0 j f ≡ l
 back l d j f e h = table-same 0 j f (λ i. getD l i d) (λ i a b. h i (omega arith)) ∙ sym (as-table l d j e)
 
--- a field of each event
-in-fields : (n : ℕ) (f : Event → ℕ) (es : List Event) (e : ℕ) → e < length es → getD (pad n (map f es)) e 0 ≡ f (getD es e noEvent)
-in-fields n f es e h = pad-get n (map f es) e (rw (length-map es f) h) ∙ at es e h
+-- a field of each event or dependency
+in-fields : {A : Type 0} (n : ℕ) (f : A → ℕ) (d : A) (es : List A) (e : ℕ) → e < length es → getD (pad n (map f es)) e 0 ≡ f (getD es e d)
+in-fields {A} n f d es e h = pad-get n (map f es) e (rw (length-map es f) h) ∙ at es e h
   where
-    at : (es : List Event) (e : ℕ) → e < length es → getD (map f es) e 0 ≡ f (getD es e noEvent)
+    at : (es : List A) (e : ℕ) → e < length es → getD (map f es) e 0 ≡ f (getD es e d)
     at [] e h = absurd (not-suc-le-zero h)
     at (x ∷ es) zero h = refl
     at (x ∷ es) (suc e) h = at es e (le-of-suc-le-suc h)
@@ -75,8 +76,24 @@ module _ (c : Case) (H : Holds c) where
       back (c .events) noEvent (c .k) _ (H .events)
       (λ e h.
       let l : e < length (c .events) = omega (arith, H .events) in
-      rw (in-fields mostEvents (λ x. x .kind) (c .events) e l, in-fields mostEvents (λ x. x .thread) (c .events) e l, in-fields mostEvents (λ x. x .address) (c .events) e l, in-fields mostEvents (λ x. x .value) (c .events) e l)
+      rw (in-fields mostEvents (λ x. x .kind) noEvent (c .events) e l, in-fields mostEvents (λ x. x .thread) noEvent (c .events) e l, in-fields mostEvents (λ x. x .address) noEvent (c .events) e l, in-fields mostEvents (λ x. x .value) noEvent (c .events) e l)
       (event-again (getD (c .events) e noEvent) (H .bares e h)))
+
+  links-counted : linkCount (c .edition) (length (c .dependencies)) ≡ length (c .dependencies)
+  unfolding linkCount
+  links-counted = go (second (c .edition)) refl
+    where
+      go : (x : Bool) → second (c .edition) ≡ x → cond x (length (c .dependencies)) 0 ≡ length (c .dependencies)
+      go true e = refl
+      go false e = sym (ap length (H .no-links e))
+
+  links-back : linksOf (linkCount (held c .edition) (held c .dependencies)) (held c .class) (held c .from) (held c .to) ≡ c .dependencies
+  unfolding linksOf held
+  links-back =
+      back (c .dependencies) (link 0 0 0) _ _ (sym links-counted)
+      (λ i h.
+      let l : i < length (c .dependencies) = omega (arith, links-counted) in
+      rw (in-fields mostDependencies (λ x. x .class) (link 0 0 0) (c .dependencies) i l, in-fields mostDependencies (λ x. x .from) (link 0 0 0) (c .dependencies) i l, in-fields mostDependencies (λ x. x .to) (link 0 0 0) (c .dependencies) i l))
 
   initials-back : table 0 (c .m) (λ x. getD (held c .initial) x 0) ≡ c .initials
   unfolding held
@@ -119,6 +136,7 @@ module _ (c : Case) (H : Holds c) where
     k = c .k;
     initials = initials-back i;
     events = events-back i;
+    dependencies = links-back i;
     writes = writes-back i;
     orders = orders-back i;
     name = name-back i;
@@ -129,7 +147,8 @@ pub holds : (c : Case) → Fits c → Holds c
 holds c F = record {
   initials = sym (F .m);
   events = sym (F .k);
-  bares = λ e h t. let f = all-at (EventFits (c .n) (c .m)) (c .events) (F .events) e noEvent (omega (arith, F .k)) in (f .no-address t, f .no-value t);
+  bares = λ e h t. let f = all-at (EventFits (c .edition) (c .n) (c .m)) (c .events) (F .events) e noEvent (omega (arith, F .k)) in (f .no-address t, f .no-value t);
+  no-links = F .no-dependencies;
   writes = sym (F .m′);
   written = λ x h. rw (zero-add x) at (from-at _ 0 (c .writes) (writes-from (c .k) (storeTo (c .events)) [] (c .writes) (F .writes)) x [] (omega (arith, F .m′)) .0);
   few = F .k-most;

@@ -3,7 +3,7 @@ pub mod Faults
 pub mod Bounds
 pub mod Tested
 pub mod WriteOrders
-pub mod Sizes
+pub mod Links
 pub mod Means
 pub mod Pad
 pub mod HeldBack

@@ -2,30 +2,34 @@
 -- Assumes nothing.
 use Prim.Native.Nat.{ℕ, suc, _+_, _*_, _≤_, _<_}
 use mathlib.Core.Path.{_≡_, refl, sym, ap, ap₂, _∙_}
-use mathlib.Core.Bool.{Bool, true, false, not, _&&_}
+use mathlib.Core.Bool.{Bool, true, false, not, _&&_, false≢true}
 use mathlib.Core.List.{List, [], _∷_, _++_}
 use lib.Dec.{eqb, leb, ltb}
-use lib.ListN.{getD}
+use lib.ListN.{length, getD}
 use borrow.Author.Tests.{eqb-true, leb-true, ltb-true, le-leb, lt-leb, not-true, not-false}
 use Rattle.finite.specs.Tests.{all, count}
 use Rattle.finite.specs.Lists.{table}
-use Rattle.finite.proofs.Tests.{and-r, count-same}
+use Rattle.finite.proofs.Tests.{and-r, is-false, count-same}
 use Rattle.finite.proofs.Lists.{table-get, table-same, table-length}
-use Rattle.model.specs.Limits.{leastEdition, mostEdition, mostThreads, mostAddresses, mostEvents, mostValue, mostName}
-use Rattle.model.specs.Case.{Event, noEvent, store, sync}
+use Rattle.model.specs.Limits.{leastEdition, mostEdition, mostThreads, mostAddresses, mostEvents, mostDependencies, mostValue, mostName}
+use Rattle.model.specs.Case.{Event, Dependency, noEvent, store, bare}
 use Rattle.model.specs.Rules.{orElse}
 use Rattle.model.specs.Record.{member, storeTo}
-use Rattle.model.specs.Fault.{between, eventGood, firstFault, writeFault, writesFault, fault}
+use Rattle.model.specs.Fault.{between, eventGood, firstFault, dependencyFault, writeFault, writesFault, fault}
 use Rattle.case.specs.declared.Case.{Case as Held}
-use Rattle.case.specs.Held.{eventOf, eventsOf, caseOf}
+use Rattle.case.specs.Held.{eventOf, eventsOf, linkCount, linksOf, goodAt, linksFault, caseOf}
 use Rattle.case.specs.Stores.{storeAt, writesAt}
 use Rattle.case.proofs.Events.{event-by}
 use Rattle.case.proofs.Faults.{every-table}
+use Rattle.case.proofs.Links.{goods-same}
 use Rattle.case.proofs.WriteOrders.{first-fault}
 
 -- ---- stores
+bare-no-store : (k : ℕ) → bare k ≡ true → eqb k store ≡ false
+bare-no-store k h = is-false (λ e. false≢true (sym (ap bare (eqb-true k store e)) ∙ h))
+
 event-store : (k t a v x : ℕ) → (eqb (eventOf k t a v .kind) store && eqb (eventOf k t a v .address) x) ≡ (eqb k store && eqb a x)
-event-store k t a v x = event-by (λ e. (eqb (e .kind) store && eqb (e .address) x) ≡ (eqb k store && eqb a x)) k t a v (λ h. rw (eqb-true k sync h)) (λ h. refl)
+event-store k t a v x = event-by (λ e. (eqb (e .kind) store && eqb (e .address) x) ≡ (eqb k store && eqb a x)) k t a v (λ h. rw (bare-no-store k h)) (λ h. refl)
 
 pub store-same : (k : ℕ) (ks ts as′ vs : List ℕ) (x e : ℕ) → e < k → storeTo (eventsOf k ks ts as′ vs) x e ≡ storeAt ks as′ x e
 unfolding storeTo eventsOf storeAt
@@ -69,6 +73,10 @@ else-and true true d x y = refl
 else-and true false d x y = refl
 else-and false b d x y = refl
 
+else-first : (t : Bool) (x y : ℕ) → orElse t 3 (firstFault x y) ≡ firstFault (orElse t 3 x) y
+else-first true x y = refl
+else-first false x y = refl
+
 module _ (c : Held) where
   abbrev head : Bool
   head = between leastEdition mostEdition (c .edition) && (between 1 mostThreads (c .threads) && between 1 mostAddresses (c .addresses))
@@ -77,24 +85,39 @@ module _ (c : Held) where
   initials = all (c .addresses) (λ x. leb (getD (c .initial) x 0) mostValue)
 
   abbrev listing : Bool
-  listing = all (c .events) (λ e. eventGood (c .threads) (c .addresses) (eventOf (getD (c .kind) e 0) (getD (c .thread) e 0) (getD (c .address) e 0) (getD (c .value) e 0)))
+  listing = all (c .events) (λ e. eventGood (c .edition) (c .threads) (c .addresses) (eventOf (getD (c .kind) e 0) (getD (c .thread) e 0) (getD (c .address) e 0) (getD (c .value) e 0)))
+
+  abbrev count-links : ℕ
+  count-links = linkCount (c .edition) (c .dependencies)
+
+  abbrev links : ℕ
+  links = dependencyFault (c .events) (goodAt (c .events) (c .kind) (c .thread)) 0 (linksOf count-links (c .class) (c .from) (c .to))
 
   abbrev orders : ℕ
   orders = writesFault (c .events) (storeAt (c .kind) (c .address)) 0 (table 0 (c .addresses) (writesAt (c .kind) (c .address) (c .writes) (c .events)))
 
+  links-long : length (linksOf count-links (c .class) (c .from) (c .to)) ≡ count-links
+  unfolding linksOf
+  links-long = table-length 0 count-links _
+
   fault-by : fault (caseOf c)
-      ≡ orElse head 3 (orElse initials 3 (orElse (leb (c .events) mostEvents) 3 (orElse listing 3 (firstFault orders (orElse (leb (c .namelength) mostName) 3 0)))))
+      ≡ orElse head 3 (orElse initials 3 (orElse (leb (c .events) mostEvents) 3 (orElse listing 3
+      (orElse (leb count-links mostDependencies) 3 (firstFault links (firstFault orders (orElse (leb (c .namelength) mostName) 3 0)))))))
   unfolding fault caseOf eventsOf
   fault-by =
       else-and (between leastEdition mostEdition (c .edition)) (between 1 mostThreads (c .threads)) (between 1 mostAddresses (c .addresses)) 3 _
       ∙ ap (orElse head 3) (
       ap₂ (λ (b : Bool) (y : ℕ). orElse b 3 y) (every-table (λ v. leb v mostValue) (c .addresses) _) (
       ap (orElse (leb (c .events) mostEvents) 3) (
-      ap₂ (λ (b : Bool) (y : ℕ). orElse b 3 y) (every-table (eventGood (c .threads) (c .addresses)) (c .events) _) (
+      ap₂ (λ (b : Bool) (y : ℕ). orElse b 3 y) (every-table (eventGood (c .edition) (c .threads) (c .addresses)) (c .events) _) (
+      ap₂ (λ (b : ℕ) (y : ℕ). orElse (leb b mostDependencies) 3 y) links-long (
       ap₂ firstFault
+      (ap (λ (good : Dependency → Bool). dependencyFault (c .events) good 0 (linksOf count-links (c .class) (c .from) (c .to)))
+      (sym (goods-same (c .events) (c .kind) (c .thread) (c .address) (c .value))))
+      (ap₂ firstFault
       (writes-fault-same (c .events) _ (storeAt (c .kind) (c .address)) (λ x e h. store-same (c .events) (c .kind) (c .thread) (c .address) (c .value) x e h) 0 (caseOf c .writes)
       ∙ ap (writesFault (c .events) (storeAt (c .kind) (c .address)) 0) (writes-of c))
-      (ap (λ (i : ℕ). orElse (leb i mostName) 3 0) (table-length 0 (c .namelength) (λ i. getD (c .name) i 0)))))))
+      (ap (λ (i : ℕ). orElse (leb i mostName) 3 0) (table-length 0 (c .namelength) (λ i. getD (c .name) i 0)))))))))
 
   -- the ways through `fault`
   module _ (h : Bool) (eh : h ≡ head) where
@@ -116,15 +139,36 @@ module _ (c : Held) where
           pub bad-listing : not l ≡ true → 3 ≡ fault (caseOf c)
           bad-listing tl = rw (fault-by, ← eh, not-false h th, ← ei, not-false i ti, le-leb (c .events) mostEvents k, ← el, not-true l tl)
 
-          module _ (tl : not l ≡ false) (w : ℕ) (ew : w ≡ orders) where
-            from-writes : fault (caseOf c) ≡ firstFault w (orElse (leb (c .namelength) mostName) 3 0)
-            from-writes = rw (fault-by, ← eh, not-false h th, ← ei, not-false i ti, le-leb (c .events) mostEvents k, ← el, not-false l tl, ← ew)
+          module _ (tl : not l ≡ false) (v : ℕ) (ev : v ≡ linksFault c) where
+            from-orders : fault (caseOf c) ≡ firstFault v (firstFault orders (orElse (leb (c .namelength) mostName) 3 0))
+            unfolding linksFault
+            from-orders =
+                rw (fault-by, ← eh, not-false h th, ← ei, not-false i ti, le-leb (c .events) mostEvents k, ← el, not-false l tl, ev)
+                (else-first (leb count-links mostDependencies) links _)
 
-            pub bad-writes : (w ≡ 0 → ⊥) → w ≡ fault (caseOf c)
-            bad-writes n = sym (from-writes ∙ first-fault w _ n)
+            pub bad-links : (v ≡ 0 → ⊥) → v ≡ fault (caseOf c)
+            bad-links n = sym (from-orders ∙ first-fault v _ n)
 
-            pub long-name : w ≡ 0 → mostName < c .namelength → 3 ≡ fault (caseOf c)
-            long-name z n = rw (from-writes, z, lt-leb (c .namelength) mostName n)
+            module _ (zv : v ≡ 0) (w : ℕ) (ew : w ≡ orders) where
+              from-writes : fault (caseOf c) ≡ firstFault w (orElse (leb (c .namelength) mostName) 3 0)
+              from-writes = rw (from-orders, zv, ← ew)
 
-            pub no-fault : w ≡ 0 → c .namelength ≤ mostName → 0 ≡ fault (caseOf c)
-            no-fault z n = rw (from-writes, z, le-leb (c .namelength) mostName n)
+              pub bad-writes : (w ≡ 0 → ⊥) → w ≡ fault (caseOf c)
+              bad-writes n = sym (from-writes ∙ first-fault w _ n)
+
+              pub long-name : w ≡ 0 → mostName < c .namelength → 3 ≡ fault (caseOf c)
+              long-name z n = rw (from-writes, z, lt-leb (c .namelength) mostName n)
+
+              pub no-fault : w ≡ 0 → c .namelength ≤ mostName → 0 ≡ fault (caseOf c)
+              no-fault z n = rw (from-writes, z, le-leb (c .namelength) mostName n)
+
+-- the ways through the fault of a struct's dependencies
+module _ (c : Held) (j : ℕ) (ej : j ≡ linkCount (c .edition) (c .dependencies)) where
+  pub many-links : mostDependencies < j → 3 ≡ linksFault c
+  unfolding linksFault
+  many-links m = rw (← ej, lt-leb j mostDependencies m)
+
+  pub those-links : j ≤ mostDependencies → (v : ℕ)
+      → v ≡ dependencyFault (c .events) (goodAt (c .events) (c .kind) (c .thread)) 0 (linksOf j (c .class) (c .from) (c .to)) → v ≡ linksFault c
+  unfolding linksFault
+  those-links m v e = rw (← ej, le-leb j mostDependencies m) e

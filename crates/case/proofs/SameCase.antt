@@ -14,7 +14,7 @@ use Rattle.model.specs.Limits.{mostEvents}
 use Rattle.model.specs.Case.{Event, bare}
 use Rattle.model.specs.Record.{storeTo}
 use Rattle.case.specs.declared.Case.{Case as Held}
-use Rattle.case.specs.Held.{eventOf, eventsOf, caseOf}
+use Rattle.case.specs.Held.{eventOf, eventsOf, linkCount, linksOf, caseOf}
 use Rattle.case.proofs.Masks.{left-same}
 
 -- the counts are equal, and what they count
@@ -29,6 +29,10 @@ pub record Same (c d : Held) : Type 0 where
   pub thread : (e : ℕ) → e < c .events → getD (c .thread) e 0 ≡ getD (d .thread) e 0
   pub address : (e : ℕ) → e < c .events → bare (getD (c .kind) e 0) ≡ false → getD (c .address) e 0 ≡ getD (d .address) e 0
   pub value : (e : ℕ) → e < c .events → bare (getD (c .kind) e 0) ≡ false → getD (c .value) e 0 ≡ getD (d .value) e 0
+  pub links : linkCount (c .edition) (c .dependencies) ≡ linkCount (d .edition) (d .dependencies)
+  pub class : (i : ℕ) → i < linkCount (c .edition) (c .dependencies) → getD (c .class) i 0 ≡ getD (d .class) i 0
+  pub from : (i : ℕ) → i < linkCount (c .edition) (c .dependencies) → getD (c .from) i 0 ≡ getD (d .from) i 0
+  pub to : (i : ℕ) → i < linkCount (c .edition) (c .dependencies) → getD (c .to) i 0 ≡ getD (d .to) i 0
   pub writes : (x i : ℕ) → x < c .addresses → i < count (c .events) (storeTo (caseOf c .events) x)
       → getD (c .writes) (x * mostEvents + i) 0 ≡ getD (d .writes) (x * mostEvents + i) 0
   pub rows : (p a b : ℕ) → p < c .threads → a < c .events → b < c .events
@@ -59,6 +63,11 @@ module _ (c d : Held) (S : Same c d) where
   stores-same : (x : ℕ) → count (c .events) (storeTo (caseOf c .events) x) ≡ count (d .events) (storeTo (caseOf d .events) x)
   stores-same x = ap₂ (λ (k : ℕ) (es : List Event). count k (storeTo es x)) (S .events) events-same
 
+  links-same : caseOf c .dependencies ≡ caseOf d .dependencies
+  unfolding caseOf linksOf
+  links-same =
+      tables _ _ _ _ (S .links) (λ i h j. record { class = S .class i h j; from = S .from i h j; to = S .to i h j })
+
   initials-same : caseOf c .initials ≡ caseOf d .initials
   unfolding caseOf
   initials-same = tables (c .addresses) (d .addresses) _ _ (S .addresses) (S .initial)
@@ -88,6 +97,7 @@ module _ (c d : Held) (S : Same c d) where
     k = S .events i;
     initials = initials-same i;
     events = events-same i;
+    dependencies = links-same i;
     writes = writes-same i;
     orders = orders-same i;
     name = name-same i;

@@ -9,6 +9,7 @@ use mathlib.Core.Bool.{true, true≢false}
 use mathlib.Core.List.{List}
 use lib.ListN.{length, getD, List·getD-eq-default}
 use lib.Pow.{pow-pos}
+use Rattle.finite.specs.Lists.{table}
 use Rattle.finite.proofs.Lists.{table-length}
 use Rattle.model.specs.Case.{Case, bare}
 use Rattle.model.specs.Fault.{fault}
@@ -16,7 +17,7 @@ use Rattle.laws.proofs.Fits.{Bytes, Fits}
 use Rattle.laws.proofs.AllFrom.{all-at, all-table, from-table}
 use Rattle.laws.proofs.Faultless.{Shaped, faultless, fits-of}
 use Rattle.case.specs.declared.Case.{Case as Held}
-use Rattle.case.specs.Held.{eventOf, eventsOf, caseOf, held}
+use Rattle.case.specs.Held.{eventOf, eventsOf, linkCount, linksOf, caseOf, held}
 use Rattle.case.specs.Sound.{Sound}
 use Rattle.case.proofs.Events.{event-by}
 use Rattle.case.proofs.Bounds.{sound}
@@ -36,12 +37,13 @@ byte-at s b i = by (decLt i (length s))
 
 module _ (c : Held) (b : Bytes (c .name)) where
   shaped : Shaped (caseOf c)
-  unfolding caseOf eventsOf
+  unfolding caseOf eventsOf linkCount linksOf table
   shaped = record {
     m = sym (table-length 0 (c .addresses) _);
     k = sym (table-length 0 (c .events) _);
     no-address = all-table _ 0 (c .events) _ (λ e l h. cleared _ _ _ _ h .0);
     no-value = all-table _ 0 (c .events) _ (λ e l h. cleared _ _ _ _ h .1);
+    no-dependencies = λ e. rw e;
     m′ = sym (table-length 0 (c .addresses) _);
     writes = from-table _ 0 (c .addresses) _ (λ x l. table-length 0 _ _);
     n = sym (table-length 0 (c .threads) _);

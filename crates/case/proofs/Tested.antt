@@ -32,27 +32,27 @@ module _ (a b c x y z : Bool) (ea : a ≡ x) where
   first-not ta = rw (← ea, ta)
 
 -- ---- an event
-module _ (n m k t a v : ℕ) where
-  pub no-kind : mostKind < k → false ≡ eventGood n m (eventOf k t a v)
-  no-kind hk = rw (event-good, lt-leb k mostKind hk)
+module _ (edition n m k t a v top : ℕ) (et : top ≡ mostKind edition) where
+  pub no-kind : top < k → false ≡ eventGood edition n m (eventOf k t a v)
+  no-kind hk = rw (event-good, ← et, lt-leb k top hk)
 
-  module _ (hk : k ≤ mostKind) (w : ℕ) (ew : w ≡ t) where
-    pub no-thread : n ≤ w → false ≡ eventGood n m (eventOf k t a v)
-    no-thread ht = let h : n ≤ t = omega arith in rw (event-good, le-leb k mostKind hk, le-ltb t n h)
+  module _ (hk : k ≤ top) (w : ℕ) (ew : w ≡ t) where
+    pub no-thread : n ≤ w → false ≡ eventGood edition n m (eventOf k t a v)
+    no-thread ht = let h : n ≤ t = omega arith in rw (event-good, ← et, le-leb k top hk, le-ltb t n h)
 
     module _ (ht : w < n) (b : Bool) (eb : b ≡ bare k) where
-      pub good-bare : b ≡ true → true ≡ eventGood n m (eventOf k t a v)
-      good-bare tb = let h : t < n = omega arith in rw (event-good, le-leb k mostKind hk, lt-ltb t n h, ← eb, tb)
+      pub good-bare : b ≡ true → true ≡ eventGood edition n m (eventOf k t a v)
+      good-bare tb = let h : t < n = omega arith in rw (event-good, ← et, le-leb k top hk, lt-ltb t n h, ← eb, tb)
 
       module _ (tb : b ≡ false) (u : ℕ) (eu : u ≡ a) where
-        pub no-address : m ≤ u → false ≡ eventGood n m (eventOf k t a v)
+        pub no-address : m ≤ u → false ≡ eventGood edition n m (eventOf k t a v)
         no-address ha =
             let h : t < n = omega arith in
             let g : m ≤ a = omega arith in
-            rw (event-good, le-leb k mostKind hk, lt-ltb t n h, ← eb, tb, le-ltb a m g)
+            rw (event-good, ← et, le-leb k top hk, lt-ltb t n h, ← eb, tb, le-ltb a m g)
 
-        pub by-value : u < m → leb v mostValue ≡ eventGood n m (eventOf k t a v)
+        pub by-value : u < m → leb v mostValue ≡ eventGood edition n m (eventOf k t a v)
         by-value ha =
             let h : t < n = omega arith in
             let g : a < m = omega arith in
-            rw (event-good, le-leb k mostKind hk, lt-ltb t n h, ← eb, tb, lt-ltb a m g)
+            rw (event-good, ← et, le-leb k top hk, lt-ltb t n h, ← eb, tb, lt-ltb a m g)

@@ -1,18 +1,19 @@
 // A case by value: one candidate execution, with what each thread saw in which order.
 ghost use mathlib.Core.Path.{_≡_};
-ghost use mathlib.Core.Bool.{_&&_, not};
-ghost use mathlib.Core.List.{[]};
+ghost use mathlib.Core.Bool.{_&&_, _||_, not};
+ghost use mathlib.Core.List.{[], _∷_};
 ghost use Prim.Native.Nat.{_+_, _*_, _≤_, _<_};
-ghost use lib.Dec.{leb};
+ghost use lib.Dec.{leb, eqb};
 ghost use lib.ListN.{getD};
 ghost use Rattle.finite.specs.Tests.{all, count};
 ghost use Rattle.finite.specs.Lists.{table};
 ghost use Rattle.bits.specs.Bit.{bit};
-ghost use Rattle.model.specs.Limits.{leastEdition, mostEdition, mostThreads, mostAddresses, mostEvents, mostValue};
-ghost use Rattle.model.specs.Case.{bare as bareKind};
-ghost use Rattle.model.specs.Fault.{between, eventGood, writeFault, writesFault, fault as faultOf};
+ghost use Rattle.model.specs.Limits.{leastEdition, mostEdition, second, mostThreads, mostAddresses, mostEvents, mostDependencies, mostValue};
+ghost use Rattle.model.specs.Case.{bare as bareKind, mostKind, store, byAddress, mostClass};
+ghost use Rattle.model.specs.Record.{dependencyRank};
+ghost use Rattle.model.specs.Fault.{between, eventGood, dependencyWithin, dependencyFault, writeFault, writesFault, fault as faultOf};
 ghost use Rattle.model.specs.Bound.{mostBytes};
-ghost use Rattle.case.specs.Held.{eventOf, caseOf, emptyCase};
+ghost use Rattle.case.specs.Held.{eventOf, linkCount, link, linksOf, goodAt, linksFault, caseOf, emptyCase};
 ghost use Rattle.case.specs.Stores.{storeAt, writesAt};
 
 pub struct Case {
@@ -28,6 +29,11 @@ pub struct Case {
     pub thread: [u8; Case::MOST_EVENTS],
     pub address: [u8; Case::MOST_EVENTS],
     pub value: [u32; Case::MOST_EVENTS],
+    // in edition 2, how many dependencies, and by dependency its class and the events that it goes from and to
+    pub dependencies: usize,
+    pub class: [u8; Case::MOST_DEPENDENCIES],
+    pub from: [u8; Case::MOST_DEPENDENCIES],
+    pub to: [u8; Case::MOST_DEPENDENCIES],
     // by address, MOST_EVENTS places each: its stores in write order, first to last
     pub writes: [u8; Case::MOST_ADDRESSES * Case::MOST_EVENTS],
     // by thread and event a: bit b says that a comes before b in the thread's order
@@ -39,7 +45,10 @@ pub struct Case {
 impl Case {
     pub const LEAST_EDITION: usize = 1;
 
-    pub const MOST_EDITION: usize = 1;
+    pub const MOST_EDITION: usize = 2;
+
+    // the edition that has lwsync and dependencies
+    pub const SECOND_EDITION: usize = 2;
 
     pub const MOST_THREADS: usize = 4;
 
@@ -47,12 +56,16 @@ impl Case {
 
     pub const MOST_EVENTS: usize = 24;
 
+    pub const MOST_DEPENDENCIES: usize = 96;
+
     pub const MOST_VALUE: u32 = 65535;
 
     pub const MOST_NAME: usize = 32;
 
-    // the most bytes that a record takes
-    pub const MOST_BYTES: usize = 4833;
+    // the most bytes that a record takes: of the first edition, and of any
+    pub const MOST_FIRST_BYTES: usize = 4833;
+
+    pub const MOST_BYTES: usize = 5120;
 
     // the kinds of events
     pub const LOAD: u8 = 0;
@@ -61,7 +74,16 @@ impl Case {
 
     pub const SYNC: u8 = 2;
 
-    pub const MOST_KIND: u8 = 2;
+    pub const LWSYNC: u8 = 3;
+
+    // the classes of dependencies
+    pub const BY_ADDRESS: usize = 0;
+
+    pub const BY_DATA: usize = 1;
+
+    pub const BY_CONTROL: usize = 2;
+
+    pub const MOST_CLASS: usize = 2;
 
     // A case with nothing in it, which no record gives: what stands beside a refusal.
     pub fn empty() -> Case
@@ -77,6 +99,10 @@ impl Case {
             thread: [0u8; Case::MOST_EVENTS],
             address: [0u8; Case::MOST_EVENTS],
             value: [0u32; Case::MOST_EVENTS],
+            dependencies: 0,
+            class: [0u8; Case::MOST_DEPENDENCIES],
+            from: [0u8; Case::MOST_DEPENDENCIES],
+            to: [0u8; Case::MOST_DEPENDENCIES],
             writes: [0u8; Case::MOST_ADDRESSES * Case::MOST_EVENTS],
             rows: [0u64; Case::MOST_THREADS * Case::MOST_EVENTS],
             name: [0u8; Case::MOST_NAME],
@@ -84,12 +110,41 @@ impl Case {
         }
     }
 
-    // The most bytes that a record takes, by the limits.
-    pub fn most_bytes() -> usize
-        ensures { λ r. ⌜ r ≡ mostBytes ⌝ }
+    // The most bytes that a record of an edition takes, by the limits.
+    pub fn most_bytes(edition: usize) -> usize
+        ensures { λ r. ⌜ r ≡ mostBytes edition ⌝ }
     {
-        Case::MOST_BYTES
+        if edition == Case::SECOND_EDITION {
+            Case::MOST_BYTES
+        } else {
+            Case::MOST_FIRST_BYTES
+        }
     }
+}
+
+// Whether the edition has lwsync and dependencies.
+pub fn is_second(edition: usize) -> bool
+    ensures { λ r. ⌜ r ≡ second edition ⌝ }
+{
+    edition == Case::SECOND_EDITION
+}
+
+// The greatest kind of an edition.
+pub fn most_kind(edition: usize) -> u8
+    ensures { λ r. ⌜ r ≡ mostKind edition ⌝ }
+{
+    if is_second(edition) {
+        Case::LWSYNC
+    } else {
+        Case::SYNC
+    }
+}
+
+// How many dependencies a case of the edition has: none in edition 1.
+pub fn link_count(edition: usize, dependencies: usize) -> usize
+    ensures { λ r. ⌜ r ≡ linkCount edition dependencies ⌝ }
+{
+    if is_second(edition) { dependencies } else { 0 }
 }
 
 // Whether v is from least to most.
@@ -139,21 +194,26 @@ fn wide(x: u8) -> usize
 pub fn bare(kind: u8) -> bool
     ensures { λ r. ⌜ r ≡ bareKind kind ⌝ }
 {
-    kind == Case::SYNC
+    if kind == Case::SYNC {
+        true
+    } else {
+        kind == Case::LWSYNC
+    }
 }
 
-// Whether an event of a case with so many threads and addresses has its numbers in their ranges.
+// Whether an event of a case of the edition with so many threads and addresses has its numbers in their ranges.
 fn event_good(
     kind: u8,
     thread: u8,
     address: u8,
     value: u32,
+    edition: usize,
     threads: usize,
     addresses: usize,
 ) -> bool
-    ensures { λ r. ⌜ r ≡ eventGood threads addresses (eventOf kind thread address value) ⌝ }
+    ensures { λ r. ⌜ r ≡ eventGood edition threads addresses (eventOf kind thread address value) ⌝ }
 {
-    if kind <= Case::MOST_KIND {
+    if kind <= most_kind(edition) {
         if wide(thread) < threads {
             if bare(kind) {
                 return true;
@@ -172,12 +232,13 @@ fn events_good<'a>(
     owners: &'a [u8; Case::MOST_EVENTS],
     targets: &'a [u8; Case::MOST_EVENTS],
     values: &'a [u32; Case::MOST_EVENTS],
+    edition: usize,
     threads: usize,
     addresses: usize,
     k: usize,
 ) -> bool
     requires { ⌜ k ≤ mostEvents ⌝ }
-    ensures { λ r. ⌜ r ≡ all k (λ e. eventGood threads addresses (eventOf (getD (now (kinds .entry)) e 0) (getD (now (owners .entry)) e 0) (getD (now (targets .entry)) e 0) (getD (now (values .entry)) e 0))) ⌝ }
+    ensures { λ r. ⌜ r ≡ all k (λ e. eventGood edition threads addresses (eventOf (getD (now (kinds .entry)) e 0) (getD (now (owners .entry)) e 0) (getD (now (targets .entry)) e 0) (getD (now (values .entry)) e 0))) ⌝ }
 {
     let mut e: usize = 0;
     while e < k {
@@ -186,6 +247,7 @@ fn events_good<'a>(
             owners[e],
             targets[e],
             values[e],
+            edition,
             threads,
             addresses,
         ) {
@@ -194,6 +256,140 @@ fn events_good<'a>(
         e += 1;
     }
     true
+}
+
+// A dependency's rank among k events: by the event it goes from, the one it goes to, and its class.
+pub fn link_rank(k: usize, class: usize, from: usize, to: usize) -> usize
+    requires { ⌜ k ≤ mostEvents ⌝ }
+    requires { ⌜ class ≤ mostClass ⌝ }
+    requires { ⌜ from < k ⌝ }
+    requires { ⌜ to < k ⌝ }
+    ensures { λ r. ⌜ r ≡ dependencyRank k (link class from to) ⌝ }
+{
+    (from * k + to) * (Case::MOST_CLASS + 1) + class
+}
+
+// Whether a dependency of the class may end in an event of the kind.
+fn may_end(class: usize, kind: u8) -> bool
+    ensures { λ r. ⌜ r ≡ (not (bareKind kind) && (eqb class byAddress || eqb kind store)) ⌝ }
+{
+    if bare(kind) {
+        return false;
+    }
+    if class == Case::BY_ADDRESS {
+        return true;
+    }
+    kind == Case::STORE
+}
+
+// Whether a dependency is good: from a load to a load or store listed later in its thread, by its address if to a load.
+fn link_good(
+    kinds: &[u8; Case::MOST_EVENTS],
+    owners: &[u8; Case::MOST_EVENTS],
+    k: usize,
+    class: usize,
+    from: usize,
+    to: usize,
+) -> bool
+    requires { ⌜ k ≤ mostEvents ⌝ }
+    requires { ⌜ from < k ⌝ }
+    requires { ⌜ to < k ⌝ }
+    ensures { λ r. ⌜ r ≡ goodAt k (now (kinds .entry)) (now (owners .entry)) (link class from to) ⌝ }
+{
+    if kinds[from] == Case::LOAD {
+        if from < to {
+            if owners[from] == owners[to] {
+                return may_end(class, kinds[to]);
+            }
+        }
+    }
+    false
+}
+
+// Whether a dependency may follow those below rank least.
+pub fn link_follows(
+    kinds: &[u8; Case::MOST_EVENTS],
+    owners: &[u8; Case::MOST_EVENTS],
+    k: usize,
+    least: usize,
+    class: usize,
+    from: usize,
+    to: usize,
+) -> bool
+    requires { ⌜ k ≤ mostEvents ⌝ }
+    requires { ⌜ class ≤ mostClass ⌝ }
+    requires { ⌜ from < k ⌝ }
+    requires { ⌜ to < k ⌝ }
+    ensures { λ r. ⌜ r ≡ (leb least (dependencyRank k (link class from to)) && goodAt k (now (kinds .entry)) (now (owners .entry)) (link class from to)) ⌝ }
+{
+    if least <= link_rank(k, class, from, to) {
+        return link_good(kinds, owners, k, class, from, to);
+    }
+    false
+}
+
+// Whether a dependency's class and events are in their ranges.
+fn link_within(k: usize, class: usize, from: usize, to: usize) -> bool
+    ensures { λ r. ⌜ r ≡ dependencyWithin k (link class from to) ⌝ }
+{
+    if class <= Case::MOST_CLASS {
+        if from < k {
+            return to < k;
+        }
+    }
+    false
+}
+
+// The fault of a dependency that has to have rank least or above; 0 if there is none.
+fn link_fault(
+    kinds: &[u8; Case::MOST_EVENTS],
+    owners: &[u8; Case::MOST_EVENTS],
+    k: usize,
+    least: usize,
+    class: usize,
+    from: usize,
+    to: usize,
+) -> u8
+    requires { ⌜ k ≤ mostEvents ⌝ }
+    ensures { λ r. ⌜ r ≡ dependencyFault k (goodAt k (now (kinds .entry)) (now (owners .entry))) least (link class from to ∷ []) ⌝ }
+{
+    if !link_within(k, class, from, to) {
+        return 3;
+    }
+    if !link_follows(kinds, owners, k, least, class, from, to) {
+        return 4;
+    }
+    0
+}
+
+// The first fault of so many dependencies; 0 if there is none.
+fn links_fault<'a>(
+    kinds: &'a [u8; Case::MOST_EVENTS],
+    owners: &'a [u8; Case::MOST_EVENTS],
+    classes: &'a [u8; Case::MOST_DEPENDENCIES],
+    froms: &'a [u8; Case::MOST_DEPENDENCIES],
+    tos: &'a [u8; Case::MOST_DEPENDENCIES],
+    k: usize,
+    count: usize,
+) -> u8
+    requires { ⌜ k ≤ mostEvents ⌝ }
+    requires { ⌜ count ≤ mostDependencies ⌝ }
+    ensures { λ r. ⌜ r ≡ dependencyFault k (goodAt k (now (kinds .entry)) (now (owners .entry))) 0 (linksOf count (now (classes .entry)) (now (froms .entry)) (now (tos .entry))) ⌝ }
+{
+    let mut least: usize = 0;
+    let mut i: usize = 0;
+    while i < count {
+        let class = wide(classes[i]);
+        let from = wide(froms[i]);
+        let to = wide(tos[i]);
+        let found = link_fault(kinds, owners, k, least, class, from, to);
+        if found != 0 {
+            return found;
+        }
+        least = link_rank(k, class, from, to) + 1;
+        i += 1;
+    }
+    0
 }
 
 // Whether event e is a store to x.
@@ -312,6 +508,26 @@ fn writes_fault<'a>(
     0
 }
 
+// The first fault of a case's dependencies, their number included; 0 if there is none.
+fn dependencies_fault(c: Case) -> u8
+    requires { ⌜ c .events ≤ mostEvents ⌝ }
+    ensures { λ r. ⌜ r ≡ linksFault c ⌝ }
+{
+    let count = link_count(c.edition, c.dependencies);
+    if Case::MOST_DEPENDENCIES < count {
+        return 3;
+    }
+    links_fault(
+        &c.kind,
+        &c.thread,
+        &c.class,
+        &c.from,
+        &c.to,
+        c.events,
+        count,
+    )
+}
+
 // The refusal of a case that is handed without bytes: 3 or 4, as the reader would give it for the first bad field; 0 if there is
 // none.
 pub fn fault(c: Case) -> u8
@@ -331,11 +547,16 @@ pub fn fault(c: Case) -> u8
         &c.thread,
         &c.address,
         &c.value,
+        c.edition,
         c.threads,
         c.addresses,
         c.events,
     ) {
         return 3;
+    }
+    let linked = dependencies_fault(c);
+    if linked != 0 {
+        return linked;
     }
     let found = writes_fault(&c.kind, &c.address, &c.writes, c.events, c.addresses);
     if found != 0 {

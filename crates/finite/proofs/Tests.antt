@@ -9,6 +9,7 @@ use borrow.Author.Tests.{not-true, not-false, lt-ltb, ltb-true, eq-eqb, eqb-true
 use lib.Dec.{ltb, eqb}
 use native.Mathlib.Numerals.{add-one}
 use native.Mathlib.Omega.{arith}
+use native.Mathlib.Decide.{decLe}
 use mathlib.Core.Logic.{_↔_}
 use lib.Dec.{T}
 use Rattle.finite.specs.Tests.{all, some, count, tick, _⇒_}
@@ -230,6 +231,16 @@ count-more n p = rw add-one
 pub tick-le : (b : Bool) → tick b ≤ 1
 tick-le true = omega arith
 tick-le false = omega arith
+
+-- more numbers pass among more
+pub count-mono : (n j : ℕ) (p : ℕ → Bool) → n ≤ j → count n p ≤ count j p
+unfolding count
+count-mono n zero p h = let z : n ≡ 0 = omega arith in rw z (le-refl 0)
+count-mono n (suc j) p h = go (decLe n j) (count-mono n j p)
+  where
+    go : Dec (n ≤ j) → (n ≤ j → count n p ≤ count j p) → count n p ≤ count j p + tick (p j)
+    go (yes l) ih = omega (arith, ih l)
+    go (no d) ih = let z : n ≡ suc j = omega arith in rw z (le-refl _)
 
 pub count-le : (n : ℕ) (p : ℕ → Bool) → count n p ≤ n
 unfolding count

@@ -101,6 +101,14 @@ fn say_name(name: &[u8]) {
     say_escaped(name);
 }
 
+// How many dependencies a case of edition 2 has.
+fn say_edition(c: Case) {
+    if case::is_second(c.edition) {
+        say(b"\n  edition  2; dependencies: ");
+        say_number(c.dependencies as u64);
+    }
+}
+
 // A record that was read, and starts at the byte of the input.
 fn say_record(bytes: &[u8], c: Case, length: usize, from: u64) {
     say_name(litmus::name(bytes));
@@ -110,6 +118,7 @@ fn say_record(bytes: &[u8], c: Case, length: usize, from: u64) {
     say_number(length as u64);
     say(b" bytes long\n  events   ");
     say_threads(c);
+    say_edition(c);
     say(b"\n  PPCw     ");
     say_verdict(bytes, PPCW, c.addresses);
     say(b"\n  PPCs     ");

@@ -14,9 +14,12 @@ fn say_usage() {
     say(b"    judge FILE ..     judges the records of each file\n");
     say(b"    judge --help      prints this text\n\n");
     say(
-        b"Each record is answered by its name, its place and length, its events by thread, and under\n",
+        b"Each record is answered by its name, its place and length, its events by thread (in edition 2\n",
     );
-    say(b"each model either 'accepted' with the final memory or the lowest rule that it breaks.\n");
+    say(
+        b"also how many dependencies it has), and under each model either 'accepted' with the final\n",
+    );
+    say(b"memory or the lowest rule that it breaks.\n");
     say(
         b"Bytes of a name that don't print are shown as \\xHH, a backslash as two. After a record that\n",
     );

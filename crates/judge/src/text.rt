@@ -42,7 +42,7 @@ pub fn say_refusal(number: u32) {
         2 => say(b"a number has too many groups, or is not in its shortest form"),
         3 => say(b"a number is outside its range"),
         4 => say(
-            b"a write order entry is not a store to that address or was listed before, or a pair is not above the one before",
+            b"a dependency is unfit, a write order entry is not a store to that address or was listed before, or a dependency or a pair is not above the one before",
         ),
         _ => say(b"no such refusal of bytes"),
     }
@@ -54,7 +54,7 @@ pub fn say_rule(number: u32) {
         11 => say(b"(strict partial order): a thread's order is not irreflexive and transitive"),
         12 => say(b"(own events): a thread's order leaves two of its own events unordered"),
         13 => say(
-            b"(program order): a thread's order breaks its program order at a sync or on one address",
+            b"(program order): a thread's order breaks its program order at a barrier, on one address or against a dependency",
         ),
         14 => say(
             b"(Coherence): a thread's order of two stores to one address is not the write order's",
@@ -66,10 +66,10 @@ pub fn say_rule(number: u32) {
             b"(V2): a load holds another value than some store to its address, does not come before it, and no other store lies between",
         ),
         17 => say(
-            b"(F1): an event before a sync and an event after it on its thread are not in that order for every thread",
+            b"(F1): two events that a barrier orders, one before it and one after it on its thread, are not in that order for every thread",
         ),
         18 => say(
-            b"(F2): an event before a sync and an event after a load of a store behind the sync are not in that order for every thread",
+            b"(F2): two events that a barrier orders, one before it and one after a load of a store behind it, are not in that order for every thread",
         ),
         _ => say(b"(no such rule)"),
     }

@@ -9,10 +9,10 @@ use mathlib.Core.List.{List, [], _∷_, _++_, append-assoc, append-nil}
 use lib.Dec.{leb, ltb, lit≤}
 use lib.ListN.{length, take, drop, getD, length-append, length-drop, take-append-drop}
 use lib.Seq.{length-take-le, drop-drop}
-use borrow.Author.Tests.{ltb-false, leb-true}
+use borrow.Author.Tests.{ltb-true, ltb-false, leb-true}
 use Rattle.finite.specs.Lists.{each}
 use Rattle.number.specs.Number.{Raw, got, short, wrong, readGroups, finish, readNumber, groups, encode}
-use Rattle.number.specs.Reader.{Out, stop, next, Reader, give, _>>=_, onward, unless, tested, turns, another, times, upTo, within, below, numberOut}
+use Rattle.number.specs.Reader.{Out, stop, next, Reader, give, _>>=_, onward, unless, tested, turns, another, times, upTo, within, below, under, numberOut}
 use Rattle.number.specs.declared.NumberRead.the-variants as the
 use Rattle.number.proofs.Laws as number
 use Rattle.model.specs.Record.{bytes}
@@ -158,6 +158,10 @@ exact-within lo hi = exact-fits (exact-unless 3 _ (lit≤ tt) (lit≤ tt) (exact
 pub exact-below : (b : ℕ) → 0 < b → Exact (below b) (As encode (λ v. v < b))
 unfolding below
 exact-below b l = exact-fits (exact-up-to (b - 1)) (λ v h. omega arith)
+
+pub exact-under : (b : ℕ) → Exact (under b) (As encode (λ v. v < b))
+unfolding under
+exact-under b = exact-fits (exact-unless 3 _ (lit≤ tt) (lit≤ tt) (exact-up-to b)) (λ v h. ltb-true v b (h .1))
 
 -- ---- repeated reading, each time by what was read before
 

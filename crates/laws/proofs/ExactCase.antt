@@ -7,36 +7,36 @@ use mathlib.Core.Path.{_≡_, refl, sym, ap, _∙_}
 use mathlib.Core.Bool.{Bool, true, false, not, cond, _&&_, true≢false}
 use mathlib.Core.Logic.{_↔_}
 use mathlib.Core.List.{List, [], _∷_, _++_}
-use lib.Dec.{lit≤}
+use lib.Dec.{leb, lit≤}
 use lib.ListN.{length, take, drop}
 use lib.Seq.{take-at}
 use Rattle.finite.specs.Tests.{count}
 use Rattle.finite.specs.Lists.{each}
 use Rattle.number.specs.Number.{encode}
 use Rattle.number.specs.Reader.{stop, next, give, _>>=_, turns, another, upTo, below}
-use Rattle.model.specs.Limits.{leastEdition, mostEdition, mostThreads, mostAddresses, mostEvents, mostValue, mostName}
-use Rattle.model.specs.Case.{Case, mostKind, bare}
-use Rattle.model.specs.Record.{event, member, storeTo, unlisted, writeOrder, nextWriteOrder, Head, head, Listing, listing, Rest, rest, case, read}
-use Rattle.model.specs.Written.{eventBytes, recordOf}
-use Rattle.laws.proofs.Fits.{All, Bytes, EventFits, WriteFits, WritesFit, Fits}
+use Rattle.model.specs.Limits.{leastEdition, mostEdition, second, mostThreads, mostAddresses, mostEvents, mostDependencies, mostValue, mostName}
+use Rattle.model.specs.Case.{Case, Dependency, mostKind, bare, mostClass}
+use Rattle.model.specs.Record.{event, dependency, dependencyGood, dependencyRank, leastAfter, risingDependency, risingDependencies, dependencies, member, storeTo, unlisted, writeOrder, nextWriteOrder, Head, head, Listing, listing, Rest, rest, case, read}
+use Rattle.model.specs.Written.{eventBytes, dependencyBytes, dependenciesBytes, recordOf}
+use Rattle.laws.proofs.Fits.{All, Bytes, EventFits, DependencyFits, DependenciesFit, WriteFits, WritesFit, Fits}
 use Rattle.laws.proofs.ReadBack.{headBytes, listingBytes, restBytes, parted, read-back}
-use Rattle.laws.proofs.Exact.{Took, Refused, Exact, As, Along, grown, exact-give, exact-bind, exact-last, exact-fits, exact-unless, exact-up-to, exact-within, exact-below, exact-list, exact-times, exact-bytes}
+use Rattle.laws.proofs.Exact.{Took, Refused, Exact, As, Along, grown, exact-give, exact-bind, exact-last, exact-map, exact-fits, exact-unless, exact-up-to, exact-within, exact-below, exact-under, exact-list, exact-times, exact-bytes}
 use Rattle.laws.proofs.ExactOrder.{exact-order}
 
 -- ---- an event
 
-exact-event : (n m : ℕ) → 0 < n → 0 < m → Exact (event n m) (As eventBytes (EventFits n m))
+exact-event : (edition n m : ℕ) → 0 < n → 0 < m → Exact (event edition n m) (As eventBytes (EventFits edition n m))
 unfolding event
-exact-event n m ln lm =
-    exact-bind (exact-up-to mostKind) (λ kind hk. exact-bind (exact-below n ln) (λ thread ht. go kind hk thread ht (bare kind) refl))
+exact-event edition n m ln lm =
+    exact-bind (exact-up-to (mostKind edition)) (λ kind hk. exact-bind (exact-below n ln) (λ thread ht. go kind hk thread ht (bare kind) refl))
   where
     never : {b : Bool} {G : Type 0} → b ≡ false → b ≡ true → G
     never p q = absurd (true≢false (sym q ∙ p))
 
-    go : (kind : ℕ) → kind ≤ mostKind → (thread : ℕ) → thread < n → (x : Bool) → bare kind ≡ x
+    go : (kind : ℕ) → kind ≤ mostKind edition → (thread : ℕ) → thread < n → (x : Bool) → bare kind ≡ x
         → Exact (cond (bare kind) (give (record { kind = kind; thread = thread; address = 0; value = 0 }))
         (below m >>= λ a. upTo mostValue >>= λ v. give (record { kind = kind; thread = thread; address = a; value = v })))
-        (λ e bs. As eventBytes (EventFits n m) e (encode kind ++ (encode thread ++ bs)))
+        (λ e bs. As eventBytes (EventFits edition n m) e (encode kind ++ (encode thread ++ bs)))
     go kind hk thread ht true p =
         rw p (exact-give _ _ (record {
           same = unfold eventBytes in rw p;
@@ -61,6 +61,53 @@ exact-event n m ln lm =
             no-value = λ h. never p h;
           };
         })))
+
+-- ---- dependencies
+
+exact-dependency : (k : ℕ) → Exact (dependency k) (As dependencyBytes (DependencyFits k))
+unfolding dependency dependencyBytes
+exact-dependency k =
+    exact-bind (exact-up-to mostClass) (λ class hc.
+    exact-bind (exact-under k) (λ from hf.
+    exact-last _ _ (exact-under k) (λ to ht. record { same = refl; fits = record { class = hc; from = hf; to = ht } })))
+
+-- one that may come next
+abbrev Linked : (k : ℕ) (good : Dependency → Bool) → List Dependency → Dependency → Type 0
+Linked k good before d = DependencyFits k d × ((leb (leastAfter k before) (dependencyRank k d) && good d) ≡ true)
+
+along-links : (k : ℕ) (good : Dependency → Bool) (before ds : List Dependency) → Along grown (Linked k good) before ds
+    → DependenciesFit k good before ds
+along-links k good before [] h = tt
+along-links k good before (d ∷ ds) h = (h .0 .0, h .0 .1, along-links k good (before ++ (d ∷ [])) ds (h .1))
+
+exact-links : (k : ℕ) (good : Dependency → Bool) (i : ℕ)
+    → Exact (risingDependencies k good i) (As (each dependencyBytes) (λ ds. (length ds ≡ i) × DependenciesFit k good [] ds))
+unfolding risingDependency risingDependencies
+exact-links k good i =
+    exact-fits
+    (exact-list (λ before. risingDependency k (leastAfter k before) good) dependencyBytes (Linked k good)
+    (λ before. exact-unless 4 (λ d. leb (leastAfter k before) (dependencyRank k d) && good d) (lit≤ tt) (lit≤ tt) (exact-dependency k)) i)
+    (λ ds h. (h .0, along-links k good [] ds (h .1)))
+
+pub record LinksFit (edition k : ℕ) (good : Dependency → Bool) (ds : List Dependency) : Type 0 where
+  pub none : second edition ≡ false → ds ≡ []
+  pub most : length ds ≤ mostDependencies
+  pub all : DependenciesFit k good [] ds
+
+exact-dependencies : (edition k : ℕ) (good : Dependency → Bool)
+    → Exact (dependencies edition k good) (As (dependenciesBytes edition) (LinksFit edition k good))
+unfolding dependencies
+exact-dependencies edition k good = go (second edition) refl
+  where
+    go : (x : Bool) → second edition ≡ x
+        → Exact (cond x (upTo mostDependencies >>= risingDependencies k good) (give []))
+        (As (dependenciesBytes edition) (LinksFit edition k good))
+    go true p =
+        exact-bind (exact-up-to mostDependencies) (λ i hi. exact-map (exact-links k good i) (λ ds bs h. record {
+          same = unfold dependenciesBytes in rw (p, h .same, h .fits .0);
+          fits = record { none = λ q. absurd (true≢false (sym p ∙ q)); most = rw (h .fits .0) hi; all = h .fits .1 };
+        }))
+    go false p = exact-give _ [] (record { same = unfold dependenciesBytes in rw p; fits = record { none = λ _. refl; most = lit≤ tt; all = tt } })
 
 -- ---- write orders
 
@@ -106,12 +153,12 @@ pub record HeadFits (h : Head) : Type 0 where
   pub m-least : 1 ≤ h .m
   pub m-most : h .m ≤ mostAddresses
 
-pub record ListingFits (n m : ℕ) (l : Listing) : Type 0 where
+pub record ListingFits (edition n m : ℕ) (l : Listing) : Type 0 where
   pub as-many-initials : length (l .initials) ≡ m
   pub initials : All (λ v. v ≤ mostValue) (l .initials)
   pub k-most : l .k ≤ mostEvents
   pub as-many-events : length (l .events) ≡ l .k
-  pub events : All (EventFits n m) (l .events)
+  pub events : All (EventFits edition n m) (l .events)
 
 pub record RestFits (n m k : ℕ) (mine : ℕ → ℕ → Bool) (t : Rest) : Type 0 where
   pub as-many-writes : length (t .writes) ≡ m
@@ -131,12 +178,12 @@ exact-head =
       fits = record { edition-least = he .0; edition-most = he .1; n-least = hn .0; n-most = hn .1; m-least = hm .0; m-most = hm .1 };
     })))
 
-pub exact-listing : (n m : ℕ) → 0 < n → 0 < m → Exact (listing n m) (As listingBytes (ListingFits n m))
+pub exact-listing : (edition n m : ℕ) → 0 < n → 0 < m → Exact (listing edition n m) (As listingBytes (ListingFits edition n m))
 unfolding listing
-exact-listing n m ln lm =
+exact-listing edition n m ln lm =
     exact-bind (exact-times (exact-up-to mostValue) m) (λ initials hi.
     exact-bind (exact-up-to mostEvents) (λ k hk.
-    exact-last _ _ (exact-times (exact-event n m ln lm) k) (λ es he. record {
+    exact-last _ _ (exact-times (exact-event edition n m ln lm) k) (λ es he. record {
       same = refl;
       fits = record { as-many-initials = hi .0; initials = hi .1; k-most = hk; as-many-events = he .0; events = he .1 };
     })))
@@ -156,7 +203,8 @@ pub exact-case : Exact case (As recordOf Fits)
 unfolding case
 exact-case =
     exact-bind exact-head (λ h H.
-    exact-bind (exact-listing (h .n) (h .m) (H .n-least) (H .m-least)) (λ l L.
+    exact-bind (exact-listing (h .edition) (h .n) (h .m) (H .n-least) (H .m-least)) (λ l L.
+    exact-bind (exact-dependencies (h .edition) (l .k) (dependencyGood (l .events))) (λ ds D.
     exact-last _ _ (exact-rest (h .n) (h .m) (l .k) (storeTo (l .events))) (λ t R. record {
       same = sym (parted _);
       fits = record {
@@ -171,6 +219,9 @@ exact-case =
         initials = L .initials;
         k = sym (L .as-many-events);
         events = L .events;
+        no-dependencies = D .none;
+        dependencies-most = D .most;
+        dependencies = D .all;
         m′ = sym (R .as-many-writes);
         writes = R .writes;
         n = sym (R .as-many-orders);
@@ -178,7 +229,7 @@ exact-case =
         name = R .name;
         name-bytes = R .name-bytes;
       };
-    })))
+    }))))
 
 -- ---- what reading says
 

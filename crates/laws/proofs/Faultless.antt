@@ -1,35 +1,36 @@
 -- Cases handed without bytes: those without fault are those that fit.
 -- Assumes nothing.
-use Prim.Native.Nat.{ℕ, zero, suc, _≤_, _<_, _^_}
+use Prim.Native.Nat.{ℕ, zero, suc, _+_, _≤_, _<_, _^_}
 use native.Mathlib.Omega.{arith}
-use mathlib.Core.Path.{_≡_, refl, sym}
+use mathlib.Core.Path.{_≡_, refl, sym, subst}
 use mathlib.Core.Bool.{Bool, true, false, not, _&&_, _||_, true≢false}
-use mathlib.Core.List.{List, [], _∷_, _++_}
+use mathlib.Core.List.{List, [], _∷_, _++_, map}
 use lib.Dec.{leb, ltb}
 use lib.ListN.{length}
 use borrow.Author.Tests.{le-leb, leb-true, lt-ltb, ltb-true}
 use Rattle.finite.specs.Tests.{count}
 use Rattle.finite.proofs.Tests.{and-l, and-r, and-i}
 use Rattle.number.specs.Reader.{next}
-use Rattle.model.specs.Limits.{leastEdition, mostEdition, mostThreads, mostAddresses, mostEvents, mostValue, mostName}
-use Rattle.model.specs.Case.{Case, Event, mostKind, bare}
-use Rattle.model.specs.Rules.{orElse}
-use Rattle.model.specs.Record.{member, storeTo, read}
+use Rattle.model.specs.Limits.{leastEdition, mostEdition, second, mostThreads, mostAddresses, mostEvents, mostDependencies, mostValue, mostName}
+use Rattle.model.specs.Case.{Case, Event, Dependency, mostKind, bare, mostClass}
+use Rattle.model.specs.Rules.{lastOf, orElse}
+use Rattle.model.specs.Record.{dependencyGood, dependencyRank, leastAfter, member, storeTo, read}
 use Rattle.model.specs.Written.{recordOf}
-use Rattle.model.specs.Fault.{every, between, eventGood, firstFault, writeFault, writesFault, fault}
+use Rattle.model.specs.Fault.{every, between, eventGood, firstFault, dependencyWithin, dependencyFault, writeFault, writesFault, fault}
 use Rattle.model.specs.Answers.{handed}
-use Rattle.laws.proofs.Fits.{All, Bytes, EventFits, WriteFits, Fits}
+use Rattle.laws.proofs.Fits.{All, Bytes, EventFits, DependencyFits, DependenciesFit, WriteFits, Fits}
 use Rattle.laws.proofs.AllFrom.{AllFrom, from-map, WritesFrom, writes-from, from-writes}
 use Rattle.laws.proofs.ReadBack.{all-map, read-back}
 
 -- ---- what no fault tells
 
--- the lists are as long as the counts say, what stands for nothing is 0, rows hold no event past the last, a name is bytes
+-- the lists are as long as the counts say, edition 1 has no dependencies, what stands for nothing is 0, rows hold no event past the last, a name is bytes
 pub record Shaped (c : Case) : Type 0 where
   pub m : c .m ≡ length (c .initials)
   pub k : c .k ≡ length (c .events)
   pub no-address : All (λ e. bare (e .kind) ≡ true → e .address ≡ 0) (c .events)
   pub no-value : All (λ e. bare (e .kind) ≡ true → e .value ≡ 0) (c .events)
+  pub no-dependencies : second (c .edition) ≡ false → c .dependencies ≡ []
   pub m′ : c .m ≡ length (c .writes)
   pub writes : AllFrom (λ x w. length w ≡ count (c .k) (storeTo (c .events) x)) 0 (c .writes)
   pub n : c .n ≡ length (c .orders)
@@ -90,25 +91,25 @@ module _ (lo hi v : ℕ) where
 
 -- ---- an event
 
-module _ (n m : ℕ) (e : Event) where
-  event-good : EventFits n m e → eventGood n m e ≡ true
+module _ (edition n m : ℕ) (e : Event) where
+  event-good : EventFits edition n m e → eventGood edition n m e ≡ true
   unfolding eventGood
   event-good f =
-      and-i (leb (e .kind) mostKind && ltb (e .thread) n) _
-      (and-i (leb (e .kind) mostKind) (ltb (e .thread) n) (le-leb _ _ (f .kind)) (lt-ltb _ _ (f .thread))) (go (bare (e .kind)) refl)
+      and-i (leb (e .kind) (mostKind edition) && ltb (e .thread) n) _
+      (and-i (leb (e .kind) (mostKind edition)) (ltb (e .thread) n) (le-leb _ _ (f .kind)) (lt-ltb _ _ (f .thread))) (go (bare (e .kind)) refl)
     where
       go : (x : Bool) → bare (e .kind) ≡ x → (x || (ltb (e .address) m && leb (e .value) mostValue)) ≡ true
       go true p = refl
       go false p = and-i (ltb (e .address) m) _ (lt-ltb _ _ (f .address p)) (le-leb _ _ (f .value p))
 
-  event-fits : (bare (e .kind) ≡ true → e .address ≡ 0) → (bare (e .kind) ≡ true → e .value ≡ 0) → eventGood n m e ≡ true → EventFits n m e
+  event-fits : (bare (e .kind) ≡ true → e .address ≡ 0) → (bare (e .kind) ≡ true → e .value ≡ 0) → eventGood edition n m e ≡ true → EventFits edition n m e
   unfolding eventGood
   event-fits a v t =
-      let front = and-l (leb (e .kind) mostKind && ltb (e .thread) n) (bare (e .kind) || (ltb (e .address) m && leb (e .value) mostValue)) t in
-      let back = and-r (leb (e .kind) mostKind && ltb (e .thread) n) (bare (e .kind) || (ltb (e .address) m && leb (e .value) mostValue)) t in
+      let front = and-l (leb (e .kind) (mostKind edition) && ltb (e .thread) n) (bare (e .kind) || (ltb (e .address) m && leb (e .value) mostValue)) t in
+      let back = and-r (leb (e .kind) (mostKind edition) && ltb (e .thread) n) (bare (e .kind) || (ltb (e .address) m && leb (e .value) mostValue)) t in
       record {
-        kind = leb-true _ _ (and-l (leb (e .kind) mostKind) (ltb (e .thread) n) front);
-        thread = ltb-true _ _ (and-r (leb (e .kind) mostKind) (ltb (e .thread) n) front);
+        kind = leb-true _ _ (and-l (leb (e .kind) (mostKind edition)) (ltb (e .thread) n) front);
+        thread = ltb-true _ _ (and-r (leb (e .kind) (mostKind edition)) (ltb (e .thread) n) front);
         address = λ p. ltb-true _ _ (and-l (ltb (e .address) m) (leb (e .value) mostValue) (full p back));
         value = λ p. leb-true _ _ (and-r (ltb (e .address) m) (leb (e .value) mostValue) (full p back));
         no-address = a;
@@ -118,6 +119,56 @@ module _ (n m : ℕ) (e : Event) where
       full : {x y : Bool} → x ≡ false → (x || y) ≡ true → y ≡ true
       full {x = false} p q = q
       full {x = true} p q = absurd (true≢false p)
+
+-- ---- dependencies
+
+module _ (k : ℕ) (d : Dependency) where
+  within-make : DependencyFits k d → dependencyWithin k d ≡ true
+  within-make f =
+      and-i (leb (d .class) mostClass && ltb (d .from) k) (ltb (d .to) k)
+      (and-i (leb (d .class) mostClass) (ltb (d .from) k) (le-leb _ _ (f .class)) (lt-ltb _ _ (f .from))) (lt-ltb _ _ (f .to))
+
+  within-fits : dependencyWithin k d ≡ true → DependencyFits k d
+  within-fits t =
+      let front = and-l (leb (d .class) mostClass && ltb (d .from) k) (ltb (d .to) k) t in
+      record {
+        class = leb-true _ _ (and-l (leb (d .class) mostClass) (ltb (d .from) k) front);
+        from = ltb-true _ _ (and-r (leb (d .class) mostClass) (ltb (d .from) k) front);
+        to = ltb-true _ _ (and-r (leb (d .class) mostClass && ltb (d .from) k) (ltb (d .to) k) t);
+      }
+
+-- the first may have any rank
+pub least-first : (k : ℕ) → leastAfter k [] ≡ 0
+unfolding leastAfter lastOf
+least-first k = refl
+
+-- behind one of them, the least rank is one above its own
+pub least-next : (k : ℕ) (before : List Dependency) (d : Dependency) → leastAfter k (before ++ (d ∷ [])) ≡ dependencyRank k d + 1
+unfolding leastAfter lastOf
+least-next k before d = go 0 before
+  where
+    go : (x : ℕ) (before : List Dependency) → lastOf x (map (λ d. dependencyRank k d + 1) (before ++ (d ∷ []))) ≡ dependencyRank k d + 1
+    go x [] = refl
+    go x (b ∷ before) = go (dependencyRank k b + 1) before
+
+module _ (k : ℕ) (good : Dependency → Bool) where
+  links-faultless : (before ds : List Dependency) → DependenciesFit k good before ds → dependencyFault k good (leastAfter k before) ds ≡ 0
+  unfolding dependencyFault
+  links-faultless before [] h = refl
+  links-faultless before (d ∷ ds) h =
+      pass _ 3 _ (within-make k d (h .0)) (pass _ 4 _ (h .1)
+      (subst (λ (x : ℕ). dependencyFault k good x ds ≡ 0) (least-next k before d) (links-faultless (before ++ (d ∷ [])) ds (h .2))))
+
+  links-fit : (before ds : List Dependency) → dependencyFault k good (leastAfter k before) ds ≡ 0 → DependenciesFit k good before ds
+  unfolding dependencyFault
+  links-fit before [] h = tt
+  links-fit before (d ∷ ds) h =
+      let a = passed (dependencyWithin k d) 2 _ h in
+      let b = passed (leb (leastAfter k before) (dependencyRank k d) && good d) 3 _ (a .there) in (
+        within-fits k d (a .here),
+        b .here,
+        links-fit (before ++ (d ∷ [])) ds (subst (λ (x : ℕ). dependencyFault k good x ds ≡ 0) (sym (least-next k before d)) (b .there)),
+      )
 
 -- ---- write orders
 
@@ -159,9 +210,11 @@ faultless c F =
     (pass _ 3 _ (between-make 1 mostAddresses (c .m) (F .m-least) (F .m-most))
     (pass _ 3 _ (every-make _ _ (λ v h. le-leb v mostValue h) (c .initials) (F .initials))
     (pass _ 3 _ (le-leb (c .k) mostEvents (F .k-most))
-    (pass _ 3 _ (every-make _ _ (event-good (c .n) (c .m)) (c .events) (F .events))
+    (pass _ 3 _ (every-make _ _ (event-good (c .edition) (c .n) (c .m)) (c .events) (F .events))
+    (pass _ 3 _ (le-leb (length (c .dependencies)) mostDependencies (F .dependencies-most))
+    (none _ _ (rw (least-first (c .k)) at (links-faultless (c .k) (dependencyGood (c .events)) [] (c .dependencies) (F .dependencies)))
     (none _ _ (writes-faultless (c .k) (storeTo (c .events)) 0 (c .writes) (writes-from (c .k) (storeTo (c .events)) [] (c .writes) (F .writes)))
-    (pass _ 3 0 (le-leb (length (c .name)) mostName (F .name)) refl)))))))
+    (pass _ 3 0 (le-leb (length (c .name)) mostName (F .name)) refl)))))))))
 
 pub fits-of : (c : Case) → Shaped c → fault c ≡ 0 → Fits c
 unfolding fault
@@ -171,8 +224,10 @@ fits-of c S e =
     let addresses = passed (between 1 mostAddresses (c .m)) 2 _ (threads .there) in
     let initials = passed (every (λ v. leb v mostValue) (c .initials)) 2 _ (addresses .there) in
     let events = passed (leb (c .k) mostEvents) 2 _ (initials .there) in
-    let listed = passed (every (eventGood (c .n) (c .m)) (c .events)) 2 _ (events .there) in
-    let writes = neither (writesFault (c .k) (storeTo (c .events)) 0 (c .writes)) _ (listed .there) in
+    let listed = passed (every (eventGood (c .edition) (c .n) (c .m)) (c .events)) 2 _ (events .there) in
+    let few = passed (leb (length (c .dependencies)) mostDependencies) 2 _ (listed .there) in
+    let links = neither (dependencyFault (c .k) (dependencyGood (c .events)) 0 (c .dependencies)) _ (few .there) in
+    let writes = neither (writesFault (c .k) (storeTo (c .events)) 0 (c .writes)) _ (links .there) in
     let name = passed (leb (length (c .name)) mostName) 2 0 (writes .there) in
     record {
       edition-least = between-least leastEdition mostEdition (c .edition) (edition .here);
@@ -185,7 +240,10 @@ fits-of c S e =
       m = S .m;
       initials = all-map _ _ (λ v h. leb-true v mostValue h) (c .initials) (every-get (λ v. leb v mostValue) (c .initials) (initials .here));
       k = S .k;
-      events = all-three _ _ _ _ (event-fits (c .n) (c .m)) (c .events) (S .no-address) (S .no-value) (every-get (eventGood (c .n) (c .m)) (c .events) (listed .here));
+      events = all-three _ _ _ _ (event-fits (c .edition) (c .n) (c .m)) (c .events) (S .no-address) (S .no-value) (every-get (eventGood (c .edition) (c .n) (c .m)) (c .events) (listed .here));
+      no-dependencies = S .no-dependencies;
+      dependencies-most = leb-true (length (c .dependencies)) mostDependencies (few .here);
+      dependencies = links-fit (c .k) (dependencyGood (c .events)) [] (c .dependencies) (rw (least-first (c .k)) (links .here));
       m′ = S .m′;
       writes = from-writes (c .k) (storeTo (c .events)) [] (c .writes) (writes-fit (c .k) (storeTo (c .events)) 0 (c .writes) (S .writes) (writes .here));
       n = S .n;
@@ -201,6 +259,7 @@ shaped c F = record {
   k = F .k;
   no-address = all-map _ _ (λ e h. h .no-address) (c .events) (F .events);
   no-value = all-map _ _ (λ e h. h .no-value) (c .events) (F .events);
+  no-dependencies = F .no-dependencies;
   m′ = F .m′;
   writes = from-map _ _ (λ x w h. h .0) 0 (c .writes) (writes-from (c .k) (storeTo (c .events)) [] (c .writes) (F .writes));
   n = F .n;

@@ -4,11 +4,12 @@ use Prim.Native.Nat.{ℕ, _≤_, _<_, _^_}
 use mathlib.Core.Path.{_≡_}
 use mathlib.Core.Bool.{Bool, true, false, not, _&&_}
 use mathlib.Core.List.{List, [], _∷_, _++_}
+use lib.Dec.{leb}
 use lib.ListN.{length}
 use Rattle.finite.specs.Tests.{count}
-use Rattle.model.specs.Limits.{leastEdition, mostEdition, mostThreads, mostAddresses, mostEvents, mostValue, mostName}
-use Rattle.model.specs.Case.{Case, Event, mostKind, bare}
-use Rattle.model.specs.Record.{member, storeTo}
+use Rattle.model.specs.Limits.{leastEdition, mostEdition, second, mostThreads, mostAddresses, mostEvents, mostDependencies, mostValue, mostName}
+use Rattle.model.specs.Case.{Case, Event, Dependency, mostKind, bare, mostClass}
+use Rattle.model.specs.Record.{dependencyGood, dependencyRank, leastAfter, member, storeTo}
 
 abbrev pub All : {A : Type 0} → (A → Type 0) → List A → Type 0
 All P [] = Unit {0}
@@ -17,13 +18,25 @@ All P (a ∷ as′) = P a × All P as′
 abbrev pub Bytes : List ℕ → Type 0
 Bytes s = All (λ b. b < 256) s
 
-pub record EventFits (n m : ℕ) (e : Event) : Type 0 where
-  pub kind : e .kind ≤ mostKind
+pub record EventFits (edition n m : ℕ) (e : Event) : Type 0 where
+  pub kind : e .kind ≤ mostKind edition
   pub thread : e .thread < n
   pub address : bare (e .kind) ≡ false → e .address < m
   pub value : bare (e .kind) ≡ false → e .value ≤ mostValue
   pub no-address : bare (e .kind) ≡ true → e .address ≡ 0
   pub no-value : bare (e .kind) ≡ true → e .value ≡ 0
+
+-- class, from and to are in their ranges
+pub record DependencyFits (k : ℕ) (d : Dependency) : Type 0 where
+  pub class : d .class ≤ mostClass
+  pub from : d .from < k
+  pub to : d .to < k
+
+-- each is good, and of higher rank than those before it
+abbrev pub DependenciesFit : (k : ℕ) (good : Dependency → Bool) → List Dependency → List Dependency → Type 0
+DependenciesFit k good before [] = Unit {0}
+DependenciesFit k good before (d ∷ ds) =
+    DependencyFits k d × ((leb (leastAfter k before) (dependencyRank k d) && good d) ≡ true) × DependenciesFit k good (before ++ (d ∷ [])) ds
 
 -- w lists stores of mine, none of them listed before
 abbrev pub WriteFits : (k : ℕ) (mine : ℕ → Bool) → List ℕ → List ℕ → Type 0
@@ -46,7 +59,10 @@ pub record Fits (c : Case) : Type 0 where
   pub m : c .m ≡ length (c .initials)
   pub initials : All (λ v. v ≤ mostValue) (c .initials)
   pub k : c .k ≡ length (c .events)
-  pub events : All (EventFits (c .n) (c .m)) (c .events)
+  pub events : All (EventFits (c .edition) (c .n) (c .m)) (c .events)
+  pub no-dependencies : second (c .edition) ≡ false → c .dependencies ≡ []
+  pub dependencies-most : length (c .dependencies) ≤ mostDependencies
+  pub dependencies : DependenciesFit (c .k) (dependencyGood (c .events)) [] (c .dependencies)
   pub m′ : c .m ≡ length (c .writes)
   pub writes : WritesFit (c .k) (storeTo (c .events)) [] (c .writes)
   pub n : c .n ≡ length (c .orders)

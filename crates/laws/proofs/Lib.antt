@@ -9,6 +9,7 @@ pub mod Bound
 pub mod Meaning
 pub mod Models
 pub mod Printed
+pub mod FirstEdition
 pub mod NameBack
 pub mod Renamed
 pub mod Renumbered
@@ -17,3 +18,4 @@ pub mod Refits
 pub mod Claim
 pub mod Corollaries
 pub mod RoundTrip
+pub mod FirstAnswers

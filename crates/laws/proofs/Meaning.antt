@@ -12,7 +12,7 @@ use lib.Dec.{T, lit<}
 use lib.ListN.{length, getD}
 use Rattle.finite.proofs.Tests.{all-iff, and-iff, imp-iff}
 use Rattle.model.specs.Case.{Case}
-use Rattle.model.specs.Rules.{Model, orElse, before, isBarrier, of, everywhere, rule11, rule12, rule13, rule14, rule15, rule16, rule17, rule18, verdict}
+use Rattle.model.specs.Rules.{Model, orElse, before, isBarrier, applicable, of, everywhere, rule11, rule12, rule13, rule14, rule15, rule16, rule17, rule18, verdict}
 
 -- ---- the rules by their numbers
 
@@ -128,7 +128,7 @@ unfolding rule11
 rule11-says c = (λ t. simp (all-iff, and-iff, imp-iff) at t, λ h. simp (all-iff, and-iff, imp-iff) h)
 
 pub rule17-says : (c : Case) → T (rule17 c) ↔ ((p : ℕ) → p < c .n → (f : ℕ) → f < c .k → T (isBarrier c f) × T (of c p f)
-    → (e : ℕ) → e < c .k → T (before c p e f) → (g : ℕ) → g < c .k → T (of c p g) × T (before c p f g)
+    → (e : ℕ) → e < c .k → T (before c p e f) → (g : ℕ) → g < c .k → (T (of c p g) × T (before c p f g)) × T (applicable c f e g)
     → (q : ℕ) → q < c .n → T (before c q e g))
 unfolding rule17 everywhere
 rule17-says c = (λ t. simp (all-iff, and-iff, imp-iff) at t, λ h. simp (all-iff, and-iff, imp-iff) h)

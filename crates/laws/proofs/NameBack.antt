@@ -11,7 +11,7 @@ use Rattle.number.specs.Number.{encode}
 use Rattle.number.specs.Reader.{next}
 use Rattle.model.specs.Case.{Case}
 use Rattle.model.specs.Record.{read}
-use Rattle.model.specs.Written.{orderBytes, recordOf}
+use Rattle.model.specs.Written.{dependenciesBytes, orderBytes, recordOf}
 use Rattle.model.specs.Answers.{name}
 use Rattle.laws.proofs.Fits.{Bytes}
 use Rattle.laws.proofs.ReadBack.{headBytes, headOf, listingBytes, listingOf}
@@ -20,8 +20,8 @@ use Rattle.laws.proofs.ExactCase.{Readable, readable}
 -- what stands before the name
 abbrev front : Case → List ℕ
 front c =
-    headBytes (headOf c) ++ (listingBytes (listingOf c)
-    ++ (each (each encode) (c .writes) ++ (each (orderBytes (c .k)) (c .orders) ++ encode (length (c .name)))))
+    headBytes (headOf c) ++ (listingBytes (listingOf c) ++ (dependenciesBytes (c .edition) (c .dependencies)
+    ++ (each (each encode) (c .writes) ++ (each (orderBytes (c .k)) (c .orders) ++ encode (length (c .name))))))
 
 fronted : (c : Case) → recordOf c ≡ front c ++ c .name
 unfolding recordOf

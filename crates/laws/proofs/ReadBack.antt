@@ -7,23 +7,23 @@ use native.Mathlib.Omega.{arith}
 use mathlib.Core.Path.{_≡_, refl, sym, ap, _∙_, subst}
 use mathlib.Core.Bool.{Bool, true, false, not, cond, _&&_}
 use mathlib.Core.List.{List, [], _∷_, _++_, append-assoc, append-nil}
-use lib.Dec.{lit<}
+use lib.Dec.{lit<, lit≤}
 use lib.Bits.{bitOr, or-shifted-r}
 use lib.ListN.{length, getD, set, drop, length-append, length-drop, replicate}
 use lib.Seq.{take-at, set-append-seam, getD-append-seam}
 use lib.Pow.{mod-pow-add, pow-pos}
-use borrow.Author.Tests.{le-leb, eqb-true, eqb-false}
+use borrow.Author.Tests.{le-leb, lt-ltb, eqb-true, eqb-false}
 use Rattle.finite.specs.Tests.{count}
 use Rattle.finite.specs.Lists.{each}
 use Rattle.number.specs.Number.{encode, groups}
-use Rattle.number.specs.Reader.{next, Reader, give, _>>=_, unless, turns, another, times, upTo, within, below, numberOut}
+use Rattle.number.specs.Reader.{next, Reader, give, _>>=_, unless, turns, another, times, upTo, within, below, under, numberOut}
 use Rattle.number.proofs.Laws.{read-at, past}
 use Rattle.bits.specs.Bit.{bit}
-use Rattle.model.specs.Limits.{leastEdition, mostEdition, mostThreads, mostAddresses, mostEvents, mostValue, mostName}
-use Rattle.model.specs.Case.{Case, Event, mostKind, bare}
-use Rattle.model.specs.Record.{event, member, storeTo, unlisted, writeOrder, nextWriteOrder, Pair, Rows, pair, rank, risingPair, withPair, nextPair, noPairs, order, bytes, Head, head, Listing, listing, Rest, rest, case, read}
-use Rattle.model.specs.Written.{eventBytes, pairBytes, rowPairs, rowsPairs, orderBytes, recordOf}
-use Rattle.laws.proofs.Fits.{All, EventFits, WriteFits, WritesFit, Fits}
+use Rattle.model.specs.Limits.{leastEdition, mostEdition, second, mostThreads, mostAddresses, mostEvents, mostDependencies, mostValue, mostName}
+use Rattle.model.specs.Case.{Case, Event, Dependency, sync, lwsync, mostKind, bare, mostClass}
+use Rattle.model.specs.Record.{event, dependency, dependencyGood, leastAfter, risingDependency, risingDependencies, dependencies, member, storeTo, unlisted, writeOrder, nextWriteOrder, Pair, Rows, pair, rank, risingPair, withPair, nextPair, noPairs, order, bytes, Head, head, Listing, listing, Rest, rest, case, read}
+use Rattle.model.specs.Written.{eventBytes, dependencyBytes, dependenciesBytes, pairBytes, rowPairs, rowsPairs, orderBytes, recordOf}
+use Rattle.laws.proofs.Fits.{All, EventFits, DependencyFits, DependenciesFit, WriteFits, WritesFit, Fits}
 
 -- r reads the bytes bs as a, wherever they stand
 pub record ReadsAs {A : Type 0} (r : Reader A) (bs : List ℕ) (a : A) : Type 0 where
@@ -61,6 +61,10 @@ pub reads-below : (b v : ℕ) → v < b → b ≤ 128 ^ groups → ReadsAs (belo
 unfolding below
 reads-below b v l f = reads-up-to (b - 1) v (omega arith) (omega arith)
 
+pub reads-under : (b v : ℕ) → v < b → b < 128 ^ groups → ReadsAs (under b) (encode v) v
+unfolding under
+reads-under b v l f = reads-unless 3 _ (reads-up-to b v (omega arith) f) (lt-ltb v b l)
+
 -- each of xs is read where it stands, by the reader that goes by those before it
 abbrev pub Steps : {A : Type 0} → (List A → Reader A) → (A → List ℕ) → List A → List A → Type 0
 Steps r enc before [] = Unit {0}
@@ -75,10 +79,19 @@ reads-turns r enc before (x ∷ xs) h =
     rw (append-assoc before (x ∷ []) xs) at (reads-turns r enc (before ++ (x ∷ [])) xs (h .1)) in
     reads-bind _ (reads-last _ (h .0)) rest
 
-pub reads-event : (n m : ℕ) (e : Event) → EventFits n m e → n ≤ 128 ^ groups → m ≤ 128 ^ groups → ReadsAs (event n m) (eventBytes e) e
+-- no edition has a greater kind
+pub kinds-most : (edition : ℕ) → mostKind edition ≤ lwsync
+unfolding mostKind
+kinds-most edition = go (second edition)
+  where
+    go : (x : Bool) → cond x lwsync sync ≤ lwsync
+    go true = lit≤ tt
+    go false = lit≤ tt
+
+pub reads-event : (edition n m : ℕ) (e : Event) → EventFits edition n m e → n ≤ 128 ^ groups → m ≤ 128 ^ groups → ReadsAs (event edition n m) (eventBytes e) e
 unfolding event eventBytes
-reads-event n m e f hn hm =
-    reads-bind _ (reads-up-to mostKind (e .kind) (f .kind) (lit< tt)) (reads-bind _ (reads-below n (e .thread) (f .thread) hn) (go (bare (e .kind)) refl))
+reads-event edition n m e f hn hm =
+    reads-bind _ (reads-up-to (mostKind edition) (e .kind) (f .kind) (omega (arith, kinds-most edition))) (reads-bind _ (reads-below n (e .thread) (f .thread) hn) (go (bare (e .kind)) refl))
   where
     go : (x : Bool) → bare (e .kind) ≡ x
         → ReadsAs (cond (bare (e .kind)) (give (record { kind = e .kind; thread = e .thread; address = 0; value = 0 }))
@@ -90,6 +103,33 @@ reads-event n m e f hn hm =
         rw p (subst (λ (x : Event). ReadsAs (give x) [] e) whole (reads-give e))
     go false p =
         rw p (reads-bind _ (reads-below m (e .address) (f .address p) hm) (reads-last _ (reads-up-to mostValue (e .value) (f .value p) (lit< tt))))
+
+pub reads-dependency : (k : ℕ) (d : Dependency) → DependencyFits k d → k < 128 ^ groups → ReadsAs (dependency k) (dependencyBytes d) d
+unfolding dependency dependencyBytes
+reads-dependency k d f h =
+    reads-bind _ (reads-up-to mostClass (d .class) (f .class) (lit< tt))
+    (reads-bind _ (reads-under k (d .from) (f .from) h) (reads-last _ (reads-under k (d .to) (f .to) h)))
+
+dependency-steps : (k : ℕ) (good : Dependency → Bool) (before ds : List Dependency) → DependenciesFit k good before ds → k < 128 ^ groups
+    → Steps (λ b. risingDependency k (leastAfter k b) good) dependencyBytes before ds
+unfolding risingDependency
+dependency-steps k good before [] h f = tt
+dependency-steps k good before (d ∷ ds) h f =
+    (reads-unless 4 _ (reads-dependency k d (h .0) f) (h .1), dependency-steps k good (before ++ (d ∷ [])) ds (h .2) f)
+
+pub reads-dependencies : (edition k : ℕ) (good : Dependency → Bool) (ds : List Dependency) → (second edition ≡ false → ds ≡ [])
+    → length ds ≤ mostDependencies → DependenciesFit k good [] ds → k < 128 ^ groups
+    → ReadsAs (dependencies edition k good) (dependenciesBytes edition ds) ds
+unfolding dependencies risingDependencies dependenciesBytes
+reads-dependencies edition k good ds none most h f = go (second edition) refl
+  where
+    go : (x : Bool) → second edition ≡ x
+        → ReadsAs (cond x (upTo mostDependencies >>= λ i. turns i (λ b. another (risingDependency k (leastAfter k b) good) b) []) (give []))
+        (cond x (encode (length ds) ++ each dependencyBytes ds) []) ds
+    go true p =
+        reads-bind _ (reads-up-to mostDependencies (length ds) most (lit< tt))
+        (reads-turns (λ b. risingDependency k (leastAfter k b) good) dependencyBytes [] ds (dependency-steps k good [] ds h f))
+    go false p = rw (none p) (reads-give [])
 
 -- from s on, with one of xs after the other
 abbrev pub folded : {S A : Type 0} → (S → A → S) → S → List A → S
@@ -253,7 +293,8 @@ listingOf c = record { initials = c .initials; k = c .k; events = c .events }
 abbrev pub restOf : Case → Rest
 restOf c = record { writes = c .writes; orders = c .orders; name = c .name }
 
-pub parted : (c : Case) → recordOf c ≡ headBytes (headOf c) ++ (listingBytes (listingOf c) ++ restBytes (c .k) (restOf c))
+pub parted : (c : Case)
+    → recordOf c ≡ headBytes (headOf c) ++ (listingBytes (listingOf c) ++ (dependenciesBytes (c .edition) (c .dependencies) ++ restBytes (c .k) (restOf c)))
 unfolding recordOf
 parted c = simp append-assoc
 
@@ -266,10 +307,10 @@ module _ (c : Case) (F : Fits c) where
       rw (F .m) (reads-times (upTo mostValue) encode (c .initials)
       (all-map _ _ (λ v h. reads-up-to mostValue v h (lit< tt)) (c .initials) (F .initials)))
 
-  events : ReadsAs (times (c .k) (event (c .n) (c .m))) (each eventBytes (c .events)) (c .events)
+  events : ReadsAs (times (c .k) (event (c .edition) (c .n) (c .m))) (each eventBytes (c .events)) (c .events)
   events =
-      rw (F .k) (reads-times (event (c .n) (c .m)) eventBytes (c .events)
-      (all-map _ _ (λ e h. reads-event (c .n) (c .m) e h (omega (arith, F .n-most)) (omega (arith, F .m-most))) (c .events) (F .events)))
+      rw (F .k) (reads-times (event (c .edition) (c .n) (c .m)) eventBytes (c .events)
+      (all-map _ _ (λ e h. reads-event (c .edition) (c .n) (c .m) e h (omega (arith, F .n-most)) (omega (arith, F .m-most))) (c .events) (F .events)))
 
   writes : ReadsAs (turns (c .m) (nextWriteOrder (c .k) (storeTo (c .events))) []) (each (each encode) (c .writes)) (c .writes)
   writes =
@@ -288,12 +329,17 @@ module _ (c : Case) (F : Fits c) where
       (reads-bind _ (reads-within 1 mostThreads (c .n) (F .n-least) (F .n-most) (lit< tt))
       (reads-last _ (reads-within 1 mostAddresses (c .m) (F .m-least) (F .m-most) (lit< tt))))
 
-  pub reads-listing : ReadsAs (listing (c .n) (c .m)) (listingBytes (listingOf c)) (listingOf c)
+  pub reads-listing : ReadsAs (listing (c .edition) (c .n) (c .m)) (listingBytes (listingOf c)) (listingOf c)
   unfolding listing
   reads-listing =
       reads-bind _ initials
       (reads-bind _ (reads-up-to mostEvents (c .k) (F .k-most) (lit< tt))
       (reads-last _ events))
+
+  pub reads-links : ReadsAs (dependencies (c .edition) (c .k) (dependencyGood (c .events))) (dependenciesBytes (c .edition) (c .dependencies)) (c .dependencies)
+  reads-links =
+      reads-dependencies (c .edition) (c .k) (dependencyGood (c .events)) (c .dependencies) (F .no-dependencies) (F .dependencies-most)
+      (F .dependencies) (omega (arith, F .k-most))
 
   pub reads-rest : ReadsAs (rest (c .n) (c .m) (c .k) (storeTo (c .events))) (restBytes (c .k) (restOf c)) (restOf c)
   unfolding rest
@@ -305,7 +351,7 @@ module _ (c : Case) (F : Fits c) where
 
   pub reads-case : ReadsAs case (recordOf c) c
   unfolding case
-  reads-case = rw (parted c) (reads-bind _ reads-head (reads-bind _ reads-listing (reads-last _ reads-rest)))
+  reads-case = rw (parted c) (reads-bind _ reads-head (reads-bind _ reads-listing (reads-bind _ reads-links (reads-last _ reads-rest))))
 
   -- wherever a case's record stands, reading gives the case and the place behind it
   pub read-back-at : (s : List ℕ) (at : ℕ) (t : List ℕ) → at ≤ length s → drop at s ≡ recordOf c ++ t → case s at ≡ next c (at + length (recordOf c))

@@ -18,8 +18,8 @@ use Rattle.permutation.specs.Permutation.{labels, image, inverse, fits}
 use Rattle.permutation.proofs.Laws.{image-inverse, image-eqb, fits-below, fits-image, fits-inverse}
 use Rattle.permutation.proofs.Sums.{total, total-image}
 use Rattle.model.specs.Case.{Case, Event, noEvent, store, bare}
-use Rattle.model.specs.Record.{storeTo}
-use Rattle.model.specs.Written.{eventBytes, orderBytes, recordOf}
+use Rattle.model.specs.Record.{dependencyGood, storeTo}
+use Rattle.model.specs.Written.{eventBytes, dependenciesBytes, orderBytes, recordOf}
 use Rattle.model.specs.Renumber.{moved, relabel, renumber}
 use Rattle.laws.proofs.Fits.{All, EventFits, WriteFits, WritesFit, Fits}
 use Rattle.laws.proofs.AllFrom.{all-at, all-table, from-at, from-table, writes-from, from-writes}
@@ -81,9 +81,9 @@ label-long : (v w : ℕ) → v < labels → w < labels → AsLong (encode v) (en
 label-long v w h l = record { long = rw (encode-low v (omega arith), encode-low w (omega arith)) }
 
 module _ (q r n m : ℕ) (fq : T (fits q n)) (fr : T (fits r m)) where
-  event-fits : (e : Event) → EventFits n m e → EventFits n m (relabel q r e)
+  event-fits : (edition : ℕ) (e : Event) → EventFits edition n m e → EventFits edition n m (relabel q r e)
   unfolding relabel
-  event-fits e f = record {
+  event-fits edition e f = record {
     kind = f .kind;
     thread = fits-image q n fq (e .thread) (f .thread);
     address = λ h. rw h (fits-image r m fr (e .address) (f .address h));
@@ -111,11 +111,18 @@ module _ (q r n m : ℕ) (fq : T (fits q n)) (fr : T (fits r m)) where
   unfolding storeTo
   stores-moved es y = fun-ext (λ e. rw (event-at q r es e) (unfold relabel in store-moved y (getD es e noEvent)))
 
+  -- a dependency is as good as before
+  goods-moved : (es : List Event) → dependencyGood (map (relabel q r) es) ≡ dependencyGood es
+  unfolding dependencyGood
+  goods-moved es =
+      fun-ext (λ d. rw (event-at q r es (d .from), event-at q r es (d .to)) (unfold relabel in
+      simp (image-eqb q (fits-below q n fq))))
+
   module _ (hn : n ≤ labels) (hm : m ≤ labels) where
     -- an event takes as many bytes as before
-    event-long : (e : Event) → EventFits n m e → AsLong (eventBytes (relabel q r e)) (eventBytes e)
+    event-long : (edition : ℕ) (e : Event) → EventFits edition n m e → AsLong (eventBytes (relabel q r e)) (eventBytes e)
     unfolding eventBytes relabel
-    event-long e f =
+    event-long edition e f =
         still (encode (e .kind))
         then label-long (image q (e .thread)) (e .thread) (omega (arith, fits-image q n fq (e .thread) (f .thread))) (omega (arith, f .thread))
         then go (bare (e .kind)) refl
@@ -128,10 +135,10 @@ module _ (q r n m : ℕ) (fq : T (fits q n)) (fr : T (fits r m)) where
             label-long (image r (e .address)) (e .address) (omega (arith, fits-image r m fr (e .address) (f .address p))) (omega (arith, f .address p))
             then still (encode (e .value))
 
-    events-long : (es : List Event) → All (EventFits n m) es → AsLong (each eventBytes (map (relabel q r) es)) (each eventBytes es)
+    events-long : (edition : ℕ) (es : List Event) → All (EventFits edition n m) es → AsLong (each eventBytes (map (relabel q r) es)) (each eventBytes es)
     unfolding each
-    events-long [] h = still []
-    events-long (e ∷ es) h = event-long e (h .0) then events-long es (h .1)
+    events-long edition [] h = still []
+    events-long edition (e ∷ es) h = event-long edition e (h .0) then events-long edition es (h .1)
 
 module _ (q r : ℕ) (c : Case) (F : Fits c) (fq : T (fits q (c .n))) (fr : T (fits r (c .m))) where
   -- a write order that lists the stores mine
@@ -167,7 +174,10 @@ module _ (q r : ℕ) (c : Case) (F : Fits c) (fq : T (fits q (c .n))) (fr : T (f
     m = moved-length r (c .m) 0 (c .initials);
     initials = all-moved _ r (c .m) fr 0 (c .initials) (F .m) (F .initials);
     k = F .k ∙ sym (length-map (c .events) _);
-    events = all-mapped _ _ _ (event-fits q r (c .n) (c .m) fq fr) (c .events) (F .events);
+    events = all-mapped _ _ _ (event-fits q r (c .n) (c .m) fq fr (c .edition)) (c .events) (F .events);
+    no-dependencies = F .no-dependencies;
+    dependencies-most = F .dependencies-most;
+    dependencies = rw (goods-moved q r (c .n) (c .m) fq fr (c .events)) (F .dependencies);
     m′ = moved-length r (c .m) [] (c .writes);
     writes = writes-fit;
     n = moved-length q (c .n) [] (c .orders);
@@ -182,7 +192,8 @@ module _ (q r : ℕ) (c : Case) (F : Fits c) (fq : T (fits q (c .n))) (fr : T (f
       still (encode (c .edition)) then still (encode (c .n)) then still (encode (c .m))
       then moved-long encode r (c .m) fr 0 (c .initials) (F .m)
       then still (encode (c .k))
-      then events-long q r (c .n) (c .m) fq fr (F .n-most) (F .m-most) (c .events) (F .events)
+      then events-long q r (c .n) (c .m) fq fr (F .n-most) (F .m-most) (c .edition) (c .events) (F .events)
+      then still (dependenciesBytes (c .edition) (c .dependencies))
       then moved-long (each encode) r (c .m) fr [] (c .writes) (F .m′)
       then moved-long (orderBytes (c .k)) q (c .n) fq [] (c .orders) (F .n)
       then still (encode (length (c .name)) ++ c .name)

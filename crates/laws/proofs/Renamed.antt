@@ -9,7 +9,7 @@ use Rattle.finite.proofs.Tests.{and-left, imp-cong, all-same}
 use Rattle.permutation.specs.Permutation.{image, fits}
 use Rattle.permutation.proofs.Laws.{all-image, image-eqb, fits-below}
 use Rattle.model.specs.Case.{Case, load, store, bare}
-use Rattle.model.specs.Rules.{Model, PPCw, PPCs, kind, thread, address, value, initial, isLoad, isStore, isBarrier, of, oneAddress, storeFor, before, everywhere, written, paired, seen, readsFrom, judged}
+use Rattle.model.specs.Rules.{Model, PPCw, PPCs, kind, thread, address, value, initial, isLoad, isStore, isSync, isBarrier, of, oneAddress, depends, applicable, storeFor, before, everywhere, written, paired, seen, readsFrom, judged}
 use Rattle.model.specs.Rules.{rule11, rule12, rule13, rule14, rule15, rule16, rule17, rule18, verdict}
 
 -- events of a kind that is not bare are no barriers
@@ -29,6 +29,7 @@ pub record Renamed (q r : ℕ) (c d : Case) : Type 0 where
   pub threads : (e : ℕ) → thread d e ≡ image q (thread c e)
   pub addresses : (e : ℕ) → isBarrier c e ≡ false → address d e ≡ image r (address c e)
   pub values : (e : ℕ) → value d e ≡ value c e
+  pub dependencies : d .dependencies ≡ c .dependencies
   pub initials : (x : ℕ) → initial d (image r x) ≡ initial c x
   pub orders : (p a b : ℕ) → before d (image q p) a b ≡ before c p a b
   pub writes : (a b : ℕ) → isBarrier c a ≡ false → written d a b ≡ written c a b
@@ -68,6 +69,18 @@ module _ (q r : ℕ) (c d : Case) (fq : T (fits q (c .n))) (fr : T (fits r (c .m
       go false true e f = refl
       go false false e f = simp (R .addresses a e, R .addresses b f, same-address)
 
+  dependents : (a b : ℕ) → depends d a b ≡ depends c a b
+  unfolding depends
+  dependents a b = rw (R .dependencies)
+
+  syncs : (e : ℕ) → isSync d e ≡ isSync c e
+  unfolding isSync
+  syncs e = rw (R .kinds e)
+
+  applies : (f e g : ℕ) → applicable d f e g ≡ applicable c f e g
+  unfolding applicable
+  applies f e g = simp (syncs, barriers, stores, loads)
+
   stores-for : (l s : ℕ) → storeFor d l s ≡ storeFor c l s
   unfolding storeFor
   stores-for l s = simp (stores, one-address)
@@ -98,7 +111,7 @@ module _ (q r : ℕ) (c d : Case) (fq : T (fits q (c .n))) (fr : T (fits r (c .m
 
   thirteen : rule13 d ≡ rule13 c
   unfolding rule13
-  thirteen = simp (R .n) (moved-all _ ∙ simp (R .orders, R .k, ofs, barriers, one-address))
+  thirteen = simp (R .n) (moved-all _ ∙ simp (R .orders, R .k, ofs, barriers, one-address, dependents))
 
   fourteen : rule14 d ≡ rule14 c
   unfolding rule14
@@ -132,11 +145,11 @@ module _ (q r : ℕ) (c d : Case) (fq : T (fits q (c .n))) (fr : T (fits r (c .m
 
   seventeen : rule17 d ≡ rule17 c
   unfolding rule17
-  seventeen = simp (R .n) (moved-all _ ∙ simp (R .orders, R .k, ofs, barriers, everywheres))
+  seventeen = simp (R .n) (moved-all _ ∙ simp (R .orders, R .k, ofs, barriers, applies, everywheres))
 
   eighteen : rule18 d ≡ rule18 c
   unfolding rule18
-  eighteen = simp (R .n) (moved-all _ ∙ simp (R .orders, R .k, ofs, barriers, stores, R .threads, reads, everywheres))
+  eighteen = simp (R .n) (moved-all _ ∙ simp (R .orders, R .k, ofs, barriers, applies, stores, R .threads, reads, everywheres))
 
   pub same-verdict : (w : Model) → verdict d w ≡ verdict c w
   unfolding verdict

@@ -82,6 +82,7 @@ module _ (q r : ℕ) (c : Case) (F : Fits c) (fq : T (fits q (c .n))) (fr : T (f
     threads = λ e. unfold thread relabel in ap (λ (z : Event). z .thread) (event-at q r (c .events) e);
     addresses = address-at;
     values = λ e. unfold value relabel in ap (λ (z : Event). z .value) (event-at q r (c .events) e);
+    dependencies = refl;
     initials = λ x. unfold initial in moved-at r (c .m) fr 0 (c .initials) (sym (F .m)) x;
     orders = λ p a b. unfold before in rw (moved-at q (c .n) fq [] (c .orders) (sym (F .n)) p);
     writes = λ a b h. unfold written in rw (address-at a h, writes-at (address c a));

@@ -1,10 +1,10 @@
 -- A case: 01's term for one candidate execution, with what each thread saw in which order.
 -- Assumes nothing.
 use Prim.Native.Nat.{ℕ}
-use mathlib.Core.Bool.{Bool}
+use mathlib.Core.Bool.{Bool, cond, _||_}
 use mathlib.Core.List.{List}
 use lib.Dec.{eqb}
-use Rattle.model.specs.Limits.{mostThreads}
+use Rattle.model.specs.Limits.{second, mostThreads}
 
 -- 01: "kind (0 load, 1 store, 2 sync)"
 abbrev pub load : ℕ
@@ -16,12 +16,18 @@ store = 1
 abbrev pub sync : ℕ
 sync = 2
 
-abbrev pub mostKind : ℕ
-mostKind = sync
+-- 02 (vi): "Kind 3 is lwsync"
+abbrev pub lwsync : ℕ
+lwsync = 3
 
--- events of the kind have neither address nor value (01: "unless it is a sync, address and value")
+-- the greatest kind of an edition: 02 (vi): in edition 1 "kind 3 stays refused with 3"
+unfoldable pub mostKind : (edition : ℕ) → ℕ
+mostKind edition = cond (second edition) lwsync sync
+
+-- events of the kind have neither address nor value: 01: "unless it is a sync, address and value"; 02 (vi): lwsync is "laid out as a
+-- sync is"
 abbrev pub bare : ℕ → Bool
-bare kind = eqb kind sync
+bare kind = eqb kind sync || eqb kind lwsync
 
 pub record Event : Type 0 where
   pub kind : ℕ
@@ -33,6 +39,25 @@ pub record Event : Type 0 where
 abbrev pub noEvent : Event
 noEvent = record { kind = sync; thread = mostThreads; address = 0; value = 0 }
 
+-- 02 (vi): "class (0 address, 1 data, 2 control)"
+abbrev pub byAddress : ℕ
+byAddress = 0
+
+abbrev pub byData : ℕ
+byData = 1
+
+abbrev pub byControl : ℕ
+byControl = 2
+
+abbrev pub mostClass : ℕ
+mostClass = byControl
+
+-- how event `to` depends on load `from`
+pub record Dependency : Type 0 where
+  pub class : ℕ
+  pub from : ℕ
+  pub to : ℕ
+
 pub record Case : Type 0 where
   pub edition : ℕ
   -- how many threads, addresses and events
@@ -43,6 +68,8 @@ pub record Case : Type 0 where
   pub initials : List ℕ
   -- in listing order, numbered from 0
   pub events : List Event
+  -- none in edition 1
+  pub dependencies : List Dependency
   -- by address: its stores in write order, first to last
   pub writes : List (List ℕ)
   -- by thread and event a: the number whose bit b says that a comes before b in the thread's order

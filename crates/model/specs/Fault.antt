@@ -1,15 +1,15 @@
 -- The refusal of a case that is handed without bytes: 01: "3 or 4 as the reader would for the first bad field"; 0 if there is none.
 -- Orders are taken as sets, so that no pair is out of turn or out of range.
 -- Assumes nothing.
-use Prim.Native.Nat.{ℕ, zero, suc}
+use Prim.Native.Nat.{ℕ, zero, suc, _+_}
 use mathlib.Core.Bool.{Bool, true, not, _&&_, _||_}
 use mathlib.Core.List.{List, [], _∷_, _++_}
 use lib.Dec.{leb, ltb}
 use lib.ListN.{length}
-use Rattle.model.specs.Limits.{leastEdition, mostEdition, mostThreads, mostAddresses, mostEvents, mostValue, mostName}
-use Rattle.model.specs.Case.{Case, Event, mostKind, bare}
+use Rattle.model.specs.Limits.{leastEdition, mostEdition, mostThreads, mostAddresses, mostEvents, mostDependencies, mostValue, mostName}
+use Rattle.model.specs.Case.{Case, Event, Dependency, mostKind, bare, mostClass}
 use Rattle.model.specs.Rules.{orElse}
-use Rattle.model.specs.Record.{member, storeTo}
+use Rattle.model.specs.Record.{dependencyGood, dependencyRank, member, storeTo}
 
 unfoldable pub every : {A : Type 0} → (A → Bool) → List A → Bool
 every f [] = true
@@ -19,14 +19,25 @@ every f (a ∷ as′) = f a && every f as′
 abbrev pub between : ℕ → ℕ → ℕ → Bool
 between lo hi v = leb lo v && leb v hi
 
-unfoldable pub eventGood : (n m : ℕ) → Event → Bool
-eventGood n m e =
-    leb (e .kind) mostKind && ltb (e .thread) n && (bare (e .kind) || (ltb (e .address) m && leb (e .value) mostValue))
+unfoldable pub eventGood : (edition n m : ℕ) → Event → Bool
+eventGood edition n m e =
+    leb (e .kind) (mostKind edition) && ltb (e .thread) n && (bare (e .kind) || (ltb (e .address) m && leb (e .value) mostValue))
 
 -- the first fault that is not 0
 abbrev pub firstFault : ℕ → ℕ → ℕ
 firstFault zero y = y
 firstFault (suc x) y = suc x
+
+-- class, from and to are in their ranges
+abbrev pub dependencyWithin : (k : ℕ) → Dependency → Bool
+dependencyWithin k d = leb (d .class) mostClass && ltb (d .from) k && ltb (d .to) k
+
+-- of dependencies, the first of which has to have rank least or above
+unfoldable pub dependencyFault : (k : ℕ) (good : Dependency → Bool) (least : ℕ) → List Dependency → ℕ
+dependencyFault k good least [] = 0
+dependencyFault k good least (d ∷ ds) =
+    orElse (dependencyWithin k d) 3
+    (orElse (leb least (dependencyRank k d) && good d) 4 (dependencyFault k good (dependencyRank k d + 1) ds))
 
 -- of a write order, behind those listed before: mine are the stores to its address
 unfoldable pub writeFault : (k : ℕ) (mine : ℕ → Bool) → List ℕ → List ℕ → ℕ
@@ -46,6 +57,8 @@ fault c =
     (orElse (between 1 mostAddresses (c .m)) 3
     (orElse (every (λ v. leb v mostValue) (c .initials)) 3
     (orElse (leb (c .k) mostEvents) 3
-    (orElse (every (eventGood (c .n) (c .m)) (c .events)) 3
+    (orElse (every (eventGood (c .edition) (c .n) (c .m)) (c .events)) 3
+    (orElse (leb (length (c .dependencies)) mostDependencies) 3
+    (firstFault (dependencyFault (c .k) (dependencyGood (c .events)) 0 (c .dependencies))
     (firstFault (writesFault (c .k) (storeTo (c .events)) 0 (c .writes))
-    (orElse (leb (length (c .name)) mostName) 3 0)))))))
+    (orElse (leb (length (c .name)) mostName) 3 0)))))))))

@@ -1,6 +1,8 @@
 -- The limits of a case, each named once (01, "What a case may hold"). The code's are the associated constants of `Case`.
 -- Assumes nothing.
 use Prim.Native.Nat.{ℕ}
+use mathlib.Core.Bool.{Bool}
+use lib.Dec.{eqb}
 use Rattle.permutation.specs.Permutation.{labels}
 
 -- the editions that a record may state
@@ -8,7 +10,11 @@ abbrev pub leastEdition : ℕ
 leastEdition = 1
 
 abbrev pub mostEdition : ℕ
-mostEdition = 1
+mostEdition = 2
+
+-- the edition that has lwsync and dependencies (02 (vi))
+abbrev pub second : (edition : ℕ) → Bool
+second edition = eqb edition 2
 
 -- threads and addresses are the labels that the permutations move
 abbrev pub mostThreads : ℕ
@@ -22,6 +28,10 @@ mostEvents = 24
 
 abbrev pub mostValue : ℕ
 mostValue = 65535
+
+-- 02 (vi): "a count up to 96 of dependencies"
+abbrev pub mostDependencies : ℕ
+mostDependencies = 96
 
 -- a name's bytes
 abbrev pub mostName : ℕ

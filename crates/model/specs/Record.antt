@@ -2,24 +2,61 @@
 -- Assumes nothing.
 use Prim.Native.Nat.{ℕ, _+_, _*_, _^_}
 use mathlib.Core.Bool.{Bool, false, not, cond, _&&_, _||_}
-use mathlib.Core.List.{List, [], _∷_}
-use lib.Dec.{eqb, leb}
+use mathlib.Core.List.{List, [], _∷_, map}
+use lib.Dec.{eqb, leb, ltb}
 use lib.Bits.{bitOr}
 use lib.ListN.{length, getD, take, drop, set, replicate}
 use Rattle.finite.specs.Tests.{count}
-use Rattle.number.specs.Reader.{Out, stop, next, Reader, give, _>>=_, unless, turns, another, times, upTo, within, below}
-use Rattle.model.specs.Limits.{leastEdition, mostEdition, mostThreads, mostAddresses, mostEvents, mostValue, mostName}
-use Rattle.model.specs.Case.{Case, Event, noEvent, store, mostKind, bare}
+use Rattle.number.specs.Reader.{Out, stop, next, Reader, give, _>>=_, unless, turns, another, times, upTo, within, below, under}
+use Rattle.model.specs.Limits.{leastEdition, mostEdition, second, mostThreads, mostAddresses, mostEvents, mostDependencies, mostValue, mostName}
+use Rattle.model.specs.Case.{Case, Event, Dependency, noEvent, load, store, mostKind, bare, byAddress, mostClass}
+use Rattle.model.specs.Rules.{lastOf}
 
 -- kind, thread, and unless the kind is bare, address and value
-unfoldable pub event : (n m : ℕ) → Reader Event
-event n m = do
-  kind ← upTo mostKind
+unfoldable pub event : (edition n m : ℕ) → Reader Event
+event edition n m = do
+  kind ← upTo (mostKind edition)
   thread ← below n
   cond (bare kind) (give (record { kind = kind; thread = thread; address = 0; value = 0 })) (do
     address ← below m
     value ← upTo mostValue
     give (record { kind = kind; thread = thread; address = address; value = value }))
+
+-- class, from, to
+unfoldable pub dependency : ℕ → Reader Dependency
+dependency k = do
+  class ← upTo mostClass
+  from ← under k
+  to ← under k
+  give (record { class = class; from = from; to = to })
+
+-- 02 (vi): "From must be a load listed earlier in the same thread, to a load or store; data and control must end in a store"
+unfoldable pub dependencyGood : List Event → Dependency → Bool
+dependencyGood es d =
+    eqb (getD es (d .from) noEvent .kind) load && ltb (d .from) (d .to)
+    && eqb (getD es (d .from) noEvent .thread) (getD es (d .to) noEvent .thread)
+    && not (bare (getD es (d .to) noEvent .kind))
+    && (eqb (d .class) byAddress || eqb (getD es (d .to) noEvent .kind) store)
+
+-- 02 (vi): "strictly rising by from, to, class": by this rank
+abbrev pub dependencyRank : ℕ → Dependency → ℕ
+dependencyRank k d = (d .from * k + d .to) * (mostClass + 1) + d .class
+
+-- the least rank that the next one may have
+unfoldable pub leastAfter : ℕ → List Dependency → ℕ
+leastAfter k ds = lastOf 0 (map (λ d. dependencyRank k d + 1) ds)
+
+-- 02 (vi): "else 4 at the class, once all three are read"
+unfoldable pub risingDependency : (k least : ℕ) (good : Dependency → Bool) → Reader Dependency
+risingDependency k least good = unless 4 (λ d. leb least (dependencyRank k d) && good d) (dependency k)
+
+-- i of them, each behind those read before
+unfoldable pub risingDependencies : (k : ℕ) (good : Dependency → Bool) (i : ℕ) → Reader (List Dependency)
+risingDependencies k good i = turns i (λ before. another (risingDependency k (leastAfter k before) good) before) []
+
+-- 02 (vi): "Edition 2 adds, after the events, a count up to 96 of dependencies"
+unfoldable pub dependencies : (edition k : ℕ) (good : Dependency → Bool) → Reader (List Dependency)
+dependencies edition k good = cond (second edition) (upTo mostDependencies >>= risingDependencies k good) (give [])
 
 unfoldable pub member : ℕ → List ℕ → Bool
 member x [] = false
@@ -106,11 +143,11 @@ pub record Listing : Type 0 where
   pub events : List Event
 
 -- 01, fields 1 and 2: m initial values; k, then k events in listing order
-unfoldable pub listing : (n m : ℕ) → Reader Listing
-listing n m = do
+unfoldable pub listing : (edition n m : ℕ) → Reader Listing
+listing edition n m = do
   initials ← times m (upTo mostValue)
   k ← upTo mostEvents
-  es ← times k (event n m)
+  es ← times k (event edition n m)
   give (record { initials = initials; k = k; events = es })
 
 pub record Rest : Type 0 where
@@ -130,7 +167,8 @@ rest n m k mine = do
 unfoldable pub case : Reader Case
 case = do
   h ← head
-  l ← listing (h .n) (h .m)
+  l ← listing (h .edition) (h .n) (h .m)
+  ds ← dependencies (h .edition) (l .k) (dependencyGood (l .events))
   t ← rest (h .n) (h .m) (l .k) (storeTo (l .events))
   give (record {
     edition = h .edition;
@@ -139,6 +177,7 @@ case = do
     k = l .k;
     initials = l .initials;
     events = l .events;
+    dependencies = ds;
     writes = t .writes;
     orders = t .orders;
     name = t .name;

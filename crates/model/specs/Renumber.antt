@@ -30,6 +30,7 @@ renumber q r c = record {
   k = c .k;
   initials = moved r (c .m) 0 (c .initials);
   events = map (relabel q r) (c .events);
+  dependencies = c .dependencies;
   writes = moved r (c .m) [] (c .writes);
   orders = moved q (c .n) [] (c .orders);
   name = c .name;

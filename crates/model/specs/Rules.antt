@@ -9,7 +9,7 @@ use Rattle.finite.specs.Tests.{all, some, _⇒_}
 use Rattle.finite.specs.Lists.{table}
 use Rattle.bits.specs.Bit.{bit}
 use Rattle.model.specs.Limits.{mostAddresses}
-use Rattle.model.specs.Case.{Case, noEvent, load, store, sync}
+use Rattle.model.specs.Case.{Case, noEvent, load, store, sync, bare}
 
 -- 01: "Models: 0 is PPCw, 1 is PPCs"
 pub data Model : Type 0 where
@@ -25,6 +25,11 @@ first a b (x ∷ xs) = elim (eqb x a) [ true ↦ true | false ↦ elim (eqb x b)
 unfoldable pub lastOf : ℕ → List ℕ → ℕ
 lastOf x [] = x
 lastOf x (y ∷ ys) = lastOf y ys
+
+-- some entry of the list passes the test
+unfoldable pub among : {A : Type 0} → (A → Bool) → List A → Bool
+among f [] = false
+among f (a ∷ as′) = f a || among f as′
 
 -- the number where the test fails, and else the rest
 abbrev pub orElse : Bool → ℕ → ℕ → ℕ
@@ -55,9 +60,12 @@ module _ (c : Case) where
   unfoldable pub isStore : ℕ → Bool
   isStore e = eqb (kind e) store
 
-  -- a sync is the one barrier of edition 1
+  unfoldable pub isSync : ℕ → Bool
+  isSync e = eqb (kind e) sync
+
+  -- a sync, which is the one barrier of edition 1, or an lwsync
   unfoldable pub isBarrier : ℕ → Bool
-  isBarrier e = eqb (kind e) sync
+  isBarrier e = bare (kind e)
 
   -- e is an event of thread p
   unfoldable pub of : ℕ → ℕ → Bool
@@ -66,6 +74,15 @@ module _ (c : Case) where
   -- neither is a barrier, and they use one address
   unfoldable pub oneAddress : ℕ → ℕ → Bool
   oneAddress a b = not (isBarrier a) && not (isBarrier b) && eqb (address a) (address b)
+
+  -- b depends on a, by any class
+  unfoldable pub depends : ℕ → ℕ → Bool
+  depends a b = among (λ d. eqb (d .from) a && eqb (d .to) b) (c .dependencies)
+
+  -- barrier f orders e before g: a sync any two events; an lwsync as 02 (vi) says: "where e and e' are loads or stores, except
+  -- where e is a store and e' a load"
+  unfoldable pub applicable : ℕ → ℕ → ℕ → Bool
+  applicable f e g = isSync f || (not (isBarrier e) && not (isBarrier g) && not (isStore e && isLoad g))
 
   -- s is a store to the address of l
   unfoldable pub storeFor : ℕ → ℕ → Bool
@@ -108,10 +125,12 @@ module _ (c : Case) where
   unfoldable pub rule12 : Bool
   rule12 = all n λ p. all k λ a. of p a ⇒ (all k λ b. (of p b && not (eqb a b)) ⇒ (before p a b || before p b a))
 
-  -- 01: "of two events of thread p, the earlier listed comes first in p's order if either is a sync or both use one address"
+  -- 01: "of two events of thread p, the earlier listed comes first in p's order if either is a sync or both use one address";
+  -- 02 (vi): "also orders dependent pairs and treats lwsync as it does sync"
   unfoldable pub rule13 : Bool
   rule13 =
-      all n λ p. all k λ b. of p b ⇒ (all b λ a. (of p a && (isBarrier a || isBarrier b || oneAddress a b)) ⇒ before p a b)
+      all n λ p. all k λ b. of p b
+      ⇒ (all b λ a. (of p a && (isBarrier a || isBarrier b || oneAddress a b || depends a b)) ⇒ before p a b)
 
   -- Coherence. 01: "stores to one address that p orders stand the same way in the write order"
   unfoldable pub rule14 : Bool
@@ -136,20 +155,20 @@ module _ (c : Case) where
       ⇒ ((some k λ x. storeFor l x && not (eqb x s) && before p s x && before p x l) || eqb (value l) (value s) || before p l s))
 
   -- F1. 01: "if e comes before sync f of thread p, and f before e' of thread p, in p's order, then e comes before e' in
-  -- every thread's order"
+  -- every thread's order"; of an lwsync, where it is applicable
   unfoldable pub rule17 : Bool
   rule17 =
       all n λ p. all k λ f. (isBarrier f && of p f)
-      ⇒ (all k λ e. before p e f ⇒ (all k λ g. (of p g && before p f g) ⇒ everywhere e g))
+      ⇒ (all k λ e. before p e f ⇒ (all k λ g. (of p g && before p f g && applicable f e g) ⇒ everywhere e g))
 
   -- F2. 01: "if e, then f of p, then store s of p stand so in p's order, load l reads from s, and l comes before e' in the
-  -- order of l's thread, then e comes before e' in every thread's order"
+  -- order of l's thread, then e comes before e' in every thread's order"; of an lwsync, where it is applicable
   unfoldable pub rule18 : Bool
   rule18 =
       all n λ p. all k λ f. (isBarrier f && of p f)
       ⇒ (all k λ s. (isStore s && of p s && before p f s)
       ⇒ (all k λ l. readsFrom l s
-      ⇒ (all k λ g. before (thread l) l g ⇒ (all k λ e. before p e f ⇒ everywhere e g))))
+      ⇒ (all k λ g. before (thread l) l g ⇒ (all k λ e. (before p e f && applicable f e g) ⇒ everywhere e g))))
 
   -- 01's "verdict": "The answer is the lowest broken number", or 0
   unfoldable pub verdict : Model → ℕ

@@ -1,6 +1,7 @@
 -- The worked cases: 01's ("Cases on the bench"), and one for each clause of each rule and for each refusal.
--- A record's bytes stand a part to a line, long ones on several: edition, n, m and initial values; k and the events; write orders,
--- if there are stores; each thread's order, its count first; the name's length and the name. The answer stands before them.
+-- A record's bytes stand a part to a line, long ones on several: edition, n, m and initial values; k and the events; in edition 2
+-- the dependencies, their count first; write orders, if there are stores; each thread's order, its count first; the name's length
+-- and the name. The answer stands before them.
 -- Assumes nothing.
 use Prim.Native.Nat.{ℕ}
 use mathlib.Core.Bool.{Bool, true, false, _&&_}
@@ -9,7 +10,7 @@ use lib.Dec.{eqb}
 use lib.ListN.{length, take}
 use Rattle.finite.specs.Lists.{table}
 use Rattle.number.specs.Reader.{Out, stop, next}
-use Rattle.model.specs.Case.{Case}
+use Rattle.model.specs.Case.{Case, Dependency}
 use Rattle.model.specs.Written.{recordOf}
 use Rattle.model.specs.Answers.{Answer, refusal, done, answerOf, Stored, write, judge, judgeCase, renumberRecord, renumberCase, judgedName, renumberedName}
 use Rattle.model.specs.Calls.{Call, judging, renumbering, judgingCase, renumberingCase, Composed, start, composedAfter}
@@ -53,9 +54,28 @@ one edition n m initial k kind thread address value write name = record {
   k = k;
   initials = initial ∷ [];
   events = take k (record { kind = kind; thread = thread; address = address; value = value } ∷ []);
+  dependencies = [];
   writes = write ∷ [];
   orders = (0 ∷ []) ∷ [];
   name = name;
+}
+
+abbrev pub link : (class from to : ℕ) → Dependency
+link class from to = record { class = class; from = from; to = to }
+
+-- an edition 2 case of one thread's load of 0 and store of 1, in that order, with these dependencies
+unfoldable pub linked : List Dependency → (write : List ℕ) → Case
+linked links write = record {
+  edition = 2;
+  n = 1;
+  m = 1;
+  k = 2;
+  initials = 0 ∷ [];
+  events = record { kind = 0; thread = 0; address = 0; value = 0 } ∷ record { kind = 1; thread = 0; address = 0; value = 1 } ∷ [];
+  dependencies = links;
+  writes = write ∷ [];
+  orders = (2 ∷ 0 ∷ []) ∷ [];
+  name = [];
 }
 
 unfoldable pub same : List ℕ → List ℕ → Bool
@@ -546,6 +566,466 @@ barrierCases =
     0 ∷ []) ∷
     []
 
+-- Edition 2 (02 (vi)): what its rules say of lwsync and of dependencies
+unfoldable pub secondCases : List Row
+secondCases =
+    -- SB: Dekker's events with lwsyncs, each thread's order its own three events: an lwsync doesn't order a store before a load
+    alike (accepted 46 (1 ∷ 1 ∷ 0 ∷ 0 ∷ []))
+    (2 ∷ 2 ∷ 2 ∷ 0 ∷ 0 ∷
+    6 ∷ 1 ∷ 0 ∷ 0 ∷ 1 ∷ 3 ∷ 0 ∷ 0 ∷ 0 ∷ 1 ∷ 0 ∷ 1 ∷ 1 ∷ 1 ∷ 1 ∷ 3 ∷ 1 ∷ 0 ∷ 1 ∷ 0 ∷ 0 ∷
+    0 ∷
+    0 ∷ 3 ∷
+    3 ∷ 0 ∷ 1 ∷ 0 ∷ 2 ∷ 1 ∷ 2 ∷
+    3 ∷ 3 ∷ 4 ∷ 3 ∷ 5 ∷ 4 ∷ 5 ∷
+    2 ∷ 0x53 ∷ 0x42 ∷ []) ∷
+    -- SB with syncs
+    alike (broken 17 46)
+    (2 ∷ 2 ∷ 2 ∷ 0 ∷ 0 ∷
+    6 ∷ 1 ∷ 0 ∷ 0 ∷ 1 ∷ 2 ∷ 0 ∷ 0 ∷ 0 ∷ 1 ∷ 0 ∷ 1 ∷ 1 ∷ 1 ∷ 1 ∷ 2 ∷ 1 ∷ 0 ∷ 1 ∷ 0 ∷ 0 ∷
+    0 ∷
+    0 ∷ 3 ∷
+    3 ∷ 0 ∷ 1 ∷ 0 ∷ 2 ∷ 1 ∷ 2 ∷
+    3 ∷ 3 ∷ 4 ∷ 3 ∷ 5 ∷ 4 ∷ 5 ∷
+    2 ∷ 0x53 ∷ 0x42 ∷ []) ∷
+    -- MP with lwsyncs, thread 1's order from 0 < 2 < 3 < 4 < 5, the last load holds 0
+    alike (broken 16 60)
+    (2 ∷ 2 ∷ 2 ∷ 0 ∷ 0 ∷
+    6 ∷ 1 ∷ 0 ∷ 0 ∷ 1 ∷ 3 ∷ 0 ∷ 1 ∷ 0 ∷ 1 ∷ 1 ∷ 0 ∷ 1 ∷ 1 ∷ 1 ∷ 3 ∷ 1 ∷ 0 ∷ 1 ∷ 0 ∷ 0 ∷
+    0 ∷
+    0 ∷ 2 ∷
+    3 ∷ 0 ∷ 1 ∷ 0 ∷ 2 ∷ 1 ∷ 2 ∷
+    10 ∷ 0 ∷ 2 ∷ 0 ∷ 3 ∷ 0 ∷ 4 ∷ 0 ∷ 5 ∷ 2 ∷ 3 ∷ 2 ∷ 4 ∷ 2 ∷ 5 ∷ 3 ∷ 4 ∷ 3 ∷ 5 ∷ 4 ∷ 5 ∷
+    2 ∷ 0x4D ∷ 0x50 ∷ []) ∷
+    -- MP with one sync, thread 1's order from 4 < 0 < 2 < 3: its loads are free
+    alike (accepted 50 (1 ∷ 1 ∷ 0 ∷ 0 ∷ []))
+    (2 ∷ 2 ∷ 2 ∷ 0 ∷ 0 ∷
+    5 ∷ 1 ∷ 0 ∷ 0 ∷ 1 ∷ 2 ∷ 0 ∷ 1 ∷ 0 ∷ 1 ∷ 1 ∷ 0 ∷ 1 ∷ 1 ∷ 1 ∷ 0 ∷ 1 ∷ 0 ∷ 0 ∷
+    0 ∷
+    0 ∷ 2 ∷
+    3 ∷ 0 ∷ 1 ∷ 0 ∷ 2 ∷ 1 ∷ 2 ∷
+    6 ∷ 0 ∷ 2 ∷ 0 ∷ 3 ∷ 2 ∷ 3 ∷ 4 ∷ 0 ∷ 4 ∷ 2 ∷ 4 ∷ 3 ∷
+    2 ∷ 0x4D ∷ 0x50 ∷ []) ∷
+    -- MP with an address dependency from 3 to 4: rule 13 orders them
+    alike (broken 13 53)
+    (2 ∷ 2 ∷ 2 ∷ 0 ∷ 0 ∷
+    5 ∷ 1 ∷ 0 ∷ 0 ∷ 1 ∷ 2 ∷ 0 ∷ 1 ∷ 0 ∷ 1 ∷ 1 ∷ 0 ∷ 1 ∷ 1 ∷ 1 ∷ 0 ∷ 1 ∷ 0 ∷ 0 ∷
+    1 ∷ 0 ∷ 3 ∷ 4 ∷
+    0 ∷ 2 ∷
+    3 ∷ 0 ∷ 1 ∷ 0 ∷ 2 ∷ 1 ∷ 2 ∷
+    6 ∷ 0 ∷ 2 ∷ 0 ∷ 3 ∷ 2 ∷ 3 ∷ 4 ∷ 0 ∷ 4 ∷ 2 ∷ 4 ∷ 3 ∷
+    2 ∷ 0x4D ∷ 0x50 ∷ []) ∷
+    -- IRIW with lwsyncs, the storing threads hold 0 < 2 and 3 < 5: the lwsyncs order the loads
+    judged (accepted 138 (1 ∷ 1 ∷ 0 ∷ 0 ∷ [])) (broken 15 138)
+    (2 ∷ 4 ∷ 2 ∷ 0 ∷ 0 ∷
+    8 ∷ 0 ∷ 0 ∷ 0 ∷ 1 ∷ 3 ∷ 0 ∷ 0 ∷ 0 ∷ 1 ∷ 0 ∷ 0 ∷ 1 ∷ 1 ∷ 1 ∷ 3 ∷ 1 ∷ 0 ∷ 1 ∷ 0 ∷ 0 ∷ 1 ∷ 2 ∷ 0 ∷ 1 ∷ 1 ∷ 3 ∷ 1 ∷ 1 ∷
+    0 ∷
+    6 ∷ 7 ∷
+    21 ∷ 0 ∷ 1 ∷ 0 ∷ 2 ∷ 0 ∷ 3 ∷ 0 ∷ 5 ∷ 0 ∷ 7 ∷ 1 ∷ 2 ∷ 1 ∷ 3 ∷ 1 ∷ 5 ∷ 1 ∷ 7 ∷ 2 ∷ 3 ∷ 2 ∷ 5 ∷ 2 ∷ 7 ∷ 3 ∷ 5 ∷ 6 ∷ 0 ∷
+    6 ∷ 1 ∷ 6 ∷ 2 ∷ 6 ∷ 3 ∷ 6 ∷ 5 ∷ 6 ∷ 7 ∷ 7 ∷ 3 ∷ 7 ∷ 5 ∷
+    21 ∷ 0 ∷ 2 ∷ 3 ∷ 0 ∷ 3 ∷ 2 ∷ 3 ∷ 4 ∷ 3 ∷ 5 ∷ 3 ∷ 6 ∷ 4 ∷ 0 ∷ 4 ∷ 2 ∷ 4 ∷ 5 ∷ 4 ∷ 6 ∷ 5 ∷ 0 ∷ 5 ∷ 2 ∷ 5 ∷ 6 ∷ 6 ∷ 0 ∷
+    6 ∷ 2 ∷ 7 ∷ 0 ∷ 7 ∷ 2 ∷ 7 ∷ 3 ∷ 7 ∷ 4 ∷ 7 ∷ 5 ∷ 7 ∷ 6 ∷
+    2 ∷ 0 ∷ 2 ∷ 3 ∷ 5 ∷
+    2 ∷ 0 ∷ 2 ∷ 3 ∷ 5 ∷
+    4 ∷ 0x49 ∷ 0x52 ∷ 0x49 ∷ 0x57 ∷ []) ∷
+    -- IRIW with syncs, the same orders
+    judged (broken 17 138) (broken 15 138)
+    (2 ∷ 4 ∷ 2 ∷ 0 ∷ 0 ∷
+    8 ∷ 0 ∷ 0 ∷ 0 ∷ 1 ∷ 2 ∷ 0 ∷ 0 ∷ 0 ∷ 1 ∷ 0 ∷ 0 ∷ 1 ∷ 1 ∷ 1 ∷ 2 ∷ 1 ∷ 0 ∷ 1 ∷ 0 ∷ 0 ∷ 1 ∷ 2 ∷ 0 ∷ 1 ∷ 1 ∷ 3 ∷ 1 ∷ 1 ∷
+    0 ∷
+    6 ∷ 7 ∷
+    21 ∷ 0 ∷ 1 ∷ 0 ∷ 2 ∷ 0 ∷ 3 ∷ 0 ∷ 5 ∷ 0 ∷ 7 ∷ 1 ∷ 2 ∷ 1 ∷ 3 ∷ 1 ∷ 5 ∷ 1 ∷ 7 ∷ 2 ∷ 3 ∷ 2 ∷ 5 ∷ 2 ∷ 7 ∷ 3 ∷ 5 ∷ 6 ∷ 0 ∷
+    6 ∷ 1 ∷ 6 ∷ 2 ∷ 6 ∷ 3 ∷ 6 ∷ 5 ∷ 6 ∷ 7 ∷ 7 ∷ 3 ∷ 7 ∷ 5 ∷
+    21 ∷ 0 ∷ 2 ∷ 3 ∷ 0 ∷ 3 ∷ 2 ∷ 3 ∷ 4 ∷ 3 ∷ 5 ∷ 3 ∷ 6 ∷ 4 ∷ 0 ∷ 4 ∷ 2 ∷ 4 ∷ 5 ∷ 4 ∷ 6 ∷ 5 ∷ 0 ∷ 5 ∷ 2 ∷ 5 ∷ 6 ∷ 6 ∷ 0 ∷
+    6 ∷ 2 ∷ 7 ∷ 0 ∷ 7 ∷ 2 ∷ 7 ∷ 3 ∷ 7 ∷ 4 ∷ 7 ∷ 5 ∷ 7 ∷ 6 ∷
+    2 ∷ 0 ∷ 2 ∷ 3 ∷ 5 ∷
+    2 ∷ 0 ∷ 2 ∷ 3 ∷ 5 ∷
+    4 ∷ 0x49 ∷ 0x52 ∷ 0x49 ∷ 0x57 ∷ []) ∷
+    -- IRIW with lwsyncs, the storing threads hold nothing: an lwsync orders a load before a load
+    judged (broken 17 130) (broken 16 130)
+    (2 ∷ 4 ∷ 2 ∷ 0 ∷ 0 ∷
+    8 ∷ 0 ∷ 0 ∷ 0 ∷ 1 ∷ 3 ∷ 0 ∷ 0 ∷ 0 ∷ 1 ∷ 0 ∷ 0 ∷ 1 ∷ 1 ∷ 1 ∷ 3 ∷ 1 ∷ 0 ∷ 1 ∷ 0 ∷ 0 ∷ 1 ∷ 2 ∷ 0 ∷ 1 ∷ 1 ∷ 3 ∷ 1 ∷ 1 ∷
+    0 ∷
+    6 ∷ 7 ∷
+    21 ∷ 0 ∷ 1 ∷ 0 ∷ 2 ∷ 0 ∷ 3 ∷ 0 ∷ 5 ∷ 0 ∷ 7 ∷ 1 ∷ 2 ∷ 1 ∷ 3 ∷ 1 ∷ 5 ∷ 1 ∷ 7 ∷ 2 ∷ 3 ∷ 2 ∷ 5 ∷ 2 ∷ 7 ∷ 3 ∷ 5 ∷ 6 ∷ 0 ∷
+    6 ∷ 1 ∷ 6 ∷ 2 ∷ 6 ∷ 3 ∷ 6 ∷ 5 ∷ 6 ∷ 7 ∷ 7 ∷ 3 ∷ 7 ∷ 5 ∷
+    21 ∷ 0 ∷ 2 ∷ 3 ∷ 0 ∷ 3 ∷ 2 ∷ 3 ∷ 4 ∷ 3 ∷ 5 ∷ 3 ∷ 6 ∷ 4 ∷ 0 ∷ 4 ∷ 2 ∷ 4 ∷ 5 ∷ 4 ∷ 6 ∷ 5 ∷ 0 ∷ 5 ∷ 2 ∷ 5 ∷ 6 ∷ 6 ∷ 0 ∷
+    6 ∷ 2 ∷ 7 ∷ 0 ∷ 7 ∷ 2 ∷ 7 ∷ 3 ∷ 7 ∷ 4 ∷ 7 ∷ 5 ∷ 7 ∷ 6 ∷
+    0 ∷
+    0 ∷
+    4 ∷ 0x49 ∷ 0x52 ∷ 0x49 ∷ 0x57 ∷ []) ∷
+    -- 13, the later one is an lwsync
+    alike (broken 13 17)
+    (2 ∷ 1 ∷ 1 ∷ 0 ∷
+    2 ∷ 1 ∷ 0 ∷ 0 ∷ 1 ∷ 3 ∷ 0 ∷
+    0 ∷
+    0 ∷
+    1 ∷ 1 ∷ 0 ∷
+    0 ∷ []) ∷
+    -- 13, the earlier one is an lwsync
+    alike (broken 13 17)
+    (2 ∷ 1 ∷ 1 ∷ 0 ∷
+    2 ∷ 3 ∷ 0 ∷ 1 ∷ 0 ∷ 0 ∷ 1 ∷
+    0 ∷
+    1 ∷
+    1 ∷ 1 ∷ 0 ∷
+    0 ∷ []) ∷
+    -- 13, a data dependency
+    alike (broken 13 23)
+    (2 ∷ 1 ∷ 2 ∷ 0 ∷ 0 ∷
+    2 ∷ 0 ∷ 0 ∷ 0 ∷ 0 ∷ 1 ∷ 0 ∷ 1 ∷ 1 ∷
+    1 ∷ 1 ∷ 0 ∷ 1 ∷
+    1 ∷
+    1 ∷ 1 ∷ 0 ∷
+    0 ∷ []) ∷
+    -- 13, a control dependency
+    alike (broken 13 23)
+    (2 ∷ 1 ∷ 2 ∷ 0 ∷ 0 ∷
+    2 ∷ 0 ∷ 0 ∷ 0 ∷ 0 ∷ 1 ∷ 0 ∷ 1 ∷ 1 ∷
+    1 ∷ 2 ∷ 0 ∷ 1 ∷
+    1 ∷
+    1 ∷ 1 ∷ 0 ∷
+    0 ∷ []) ∷
+    -- 13, a dependency from a load orders no other: 0 to 2 leaves 1 free
+    alike (accepted 32 (0 ∷ 0 ∷ 1 ∷ 0 ∷ []))
+    (2 ∷ 1 ∷ 3 ∷ 0 ∷ 0 ∷ 0 ∷
+    3 ∷ 0 ∷ 0 ∷ 0 ∷ 0 ∷ 0 ∷ 0 ∷ 1 ∷ 0 ∷ 1 ∷ 0 ∷ 2 ∷ 1 ∷
+    1 ∷ 1 ∷ 0 ∷ 2 ∷
+    2 ∷
+    3 ∷ 0 ∷ 2 ∷ 1 ∷ 0 ∷ 1 ∷ 2 ∷
+    0 ∷ []) ∷
+    -- 13, a dependency binds its own thread's order alone: thread 0 has thread 1's loads the other way
+    alike (done 25)
+    (2 ∷ 2 ∷ 2 ∷ 0 ∷ 0 ∷
+    2 ∷ 0 ∷ 1 ∷ 0 ∷ 0 ∷ 0 ∷ 1 ∷ 1 ∷ 0 ∷
+    1 ∷ 0 ∷ 0 ∷ 1 ∷
+    1 ∷ 1 ∷ 0 ∷
+    1 ∷ 0 ∷ 1 ∷
+    0 ∷ []) ∷
+    -- 13, every dependency counts: the first of two is broken
+    alike (broken 13 36)
+    (2 ∷ 1 ∷ 3 ∷ 0 ∷ 0 ∷ 0 ∷
+    3 ∷ 0 ∷ 0 ∷ 0 ∷ 0 ∷ 1 ∷ 0 ∷ 1 ∷ 1 ∷ 1 ∷ 0 ∷ 2 ∷ 1 ∷
+    2 ∷ 1 ∷ 0 ∷ 1 ∷ 1 ∷ 0 ∷ 2 ∷
+    1 ∷ 2 ∷
+    3 ∷ 0 ∷ 2 ∷ 1 ∷ 0 ∷ 1 ∷ 2 ∷
+    0 ∷ []) ∷
+    -- 13, every dependency counts: the second of two is broken
+    alike (broken 13 36)
+    (2 ∷ 1 ∷ 3 ∷ 0 ∷ 0 ∷ 0 ∷
+    3 ∷ 0 ∷ 0 ∷ 0 ∷ 0 ∷ 1 ∷ 0 ∷ 1 ∷ 1 ∷ 1 ∷ 0 ∷ 2 ∷ 1 ∷
+    2 ∷ 1 ∷ 0 ∷ 1 ∷ 1 ∷ 0 ∷ 2 ∷
+    1 ∷ 2 ∷
+    3 ∷ 0 ∷ 1 ∷ 2 ∷ 0 ∷ 2 ∷ 1 ∷
+    0 ∷ []) ∷
+    -- 17, an lwsync is cumulative, e is anyone's: thread 1's store before thread 0's lwsync and store
+    alike (broken 17 28)
+    (2 ∷ 2 ∷ 2 ∷ 0 ∷ 0 ∷
+    3 ∷ 1 ∷ 1 ∷ 0 ∷ 1 ∷ 3 ∷ 0 ∷ 1 ∷ 0 ∷ 1 ∷ 1 ∷
+    0 ∷
+    0 ∷ 2 ∷
+    3 ∷ 0 ∷ 1 ∷ 0 ∷ 2 ∷ 1 ∷ 2 ∷
+    0 ∷
+    0 ∷ []) ∷
+    -- 17, an lwsync orders a load before a store
+    alike (broken 17 27)
+    (2 ∷ 2 ∷ 2 ∷ 0 ∷ 0 ∷
+    3 ∷ 0 ∷ 0 ∷ 0 ∷ 0 ∷ 3 ∷ 0 ∷ 1 ∷ 0 ∷ 1 ∷ 1 ∷
+    0 ∷
+    2 ∷
+    3 ∷ 0 ∷ 1 ∷ 0 ∷ 2 ∷ 1 ∷ 2 ∷
+    0 ∷
+    0 ∷ []) ∷
+    -- 17, an lwsync doesn't order what is no load or store: e is a sync
+    alike (accepted 24 (1 ∷ 0 ∷ 0 ∷ 0 ∷ []))
+    (2 ∷ 2 ∷ 1 ∷ 0 ∷
+    3 ∷ 2 ∷ 0 ∷ 3 ∷ 0 ∷ 1 ∷ 0 ∷ 0 ∷ 1 ∷
+    0 ∷
+    2 ∷
+    3 ∷ 0 ∷ 1 ∷ 0 ∷ 2 ∷ 1 ∷ 2 ∷
+    0 ∷
+    0 ∷ []) ∷
+    -- 17, nor where e' is a sync
+    alike (accepted 24 (1 ∷ 0 ∷ 0 ∷ 0 ∷ []))
+    (2 ∷ 2 ∷ 1 ∷ 0 ∷
+    3 ∷ 1 ∷ 0 ∷ 0 ∷ 1 ∷ 3 ∷ 0 ∷ 2 ∷ 0 ∷
+    0 ∷
+    0 ∷
+    3 ∷ 0 ∷ 1 ∷ 0 ∷ 2 ∷ 1 ∷ 2 ∷
+    0 ∷
+    0 ∷ []) ∷
+    -- 18, an lwsync is cumulative through a load that reads from behind it, where e' is a store
+    alike (broken 18 50)
+    (2 ∷ 2 ∷ 3 ∷ 0 ∷ 0 ∷ 0 ∷
+    5 ∷ 1 ∷ 0 ∷ 0 ∷ 1 ∷ 3 ∷ 0 ∷ 1 ∷ 0 ∷ 1 ∷ 1 ∷ 0 ∷ 1 ∷ 1 ∷ 1 ∷ 1 ∷ 1 ∷ 2 ∷ 1 ∷
+    0 ∷
+    0 ∷ 2 ∷ 4 ∷
+    3 ∷ 0 ∷ 1 ∷ 0 ∷ 2 ∷ 1 ∷ 2 ∷
+    6 ∷ 0 ∷ 2 ∷ 0 ∷ 3 ∷ 0 ∷ 4 ∷ 2 ∷ 3 ∷ 2 ∷ 4 ∷ 3 ∷ 4 ∷
+    0 ∷ []) ∷
+    -- 18, the same where e is thread 2's
+    alike (broken 18 53)
+    (2 ∷ 3 ∷ 3 ∷ 0 ∷ 0 ∷ 0 ∷
+    5 ∷ 1 ∷ 2 ∷ 0 ∷ 1 ∷ 3 ∷ 0 ∷ 1 ∷ 0 ∷ 1 ∷ 1 ∷ 0 ∷ 1 ∷ 1 ∷ 1 ∷ 1 ∷ 1 ∷ 2 ∷ 1 ∷
+    0 ∷
+    0 ∷ 2 ∷ 4 ∷
+    3 ∷ 0 ∷ 1 ∷ 0 ∷ 2 ∷ 1 ∷ 2 ∷
+    6 ∷ 0 ∷ 2 ∷ 0 ∷ 3 ∷ 0 ∷ 4 ∷ 2 ∷ 3 ∷ 2 ∷ 4 ∷ 3 ∷ 4 ∷
+    1 ∷ 0 ∷ 2 ∷
+    0 ∷ []) ∷
+    -- 18, with the pair 0, 4 in thread 0's order
+    alike (accepted 52 (1 ∷ 1 ∷ 1 ∷ 0 ∷ []))
+    (2 ∷ 2 ∷ 3 ∷ 0 ∷ 0 ∷ 0 ∷
+    5 ∷ 1 ∷ 0 ∷ 0 ∷ 1 ∷ 3 ∷ 0 ∷ 1 ∷ 0 ∷ 1 ∷ 1 ∷ 0 ∷ 1 ∷ 1 ∷ 1 ∷ 1 ∷ 1 ∷ 2 ∷ 1 ∷
+    0 ∷
+    0 ∷ 2 ∷ 4 ∷
+    4 ∷ 0 ∷ 1 ∷ 0 ∷ 2 ∷ 0 ∷ 4 ∷ 1 ∷ 2 ∷
+    6 ∷ 0 ∷ 2 ∷ 0 ∷ 3 ∷ 0 ∷ 4 ∷ 2 ∷ 3 ∷ 2 ∷ 4 ∷ 3 ∷ 4 ∷
+    0 ∷ []) ∷
+    -- 18, not where e' is a load: Message with an lwsync
+    alike (accepted 55 (1 ∷ 1 ∷ 0 ∷ 0 ∷ []))
+    (2 ∷ 2 ∷ 2 ∷ 0 ∷ 0 ∷
+    5 ∷ 1 ∷ 0 ∷ 0 ∷ 1 ∷ 3 ∷ 0 ∷ 1 ∷ 0 ∷ 1 ∷ 1 ∷ 0 ∷ 1 ∷ 1 ∷ 1 ∷ 0 ∷ 1 ∷ 0 ∷ 1 ∷
+    0 ∷
+    0 ∷ 2 ∷
+    3 ∷ 0 ∷ 1 ∷ 0 ∷ 2 ∷ 1 ∷ 2 ∷
+    6 ∷ 0 ∷ 2 ∷ 0 ∷ 3 ∷ 0 ∷ 4 ∷ 2 ∷ 3 ∷ 2 ∷ 4 ∷ 3 ∷ 4 ∷
+    7 ∷ 0x4D ∷ 0x65 ∷ 0x73 ∷ 0x73 ∷ 0x61 ∷ 0x67 ∷ 0x65 ∷ []) ∷
+    -- 18, nor where e' is a barrier
+    alike (accepted 46 (1 ∷ 1 ∷ 0 ∷ 0 ∷ []))
+    (2 ∷ 2 ∷ 2 ∷ 0 ∷ 0 ∷
+    5 ∷ 1 ∷ 0 ∷ 0 ∷ 1 ∷ 3 ∷ 0 ∷ 1 ∷ 0 ∷ 1 ∷ 1 ∷ 0 ∷ 1 ∷ 1 ∷ 1 ∷ 2 ∷ 1 ∷
+    0 ∷
+    0 ∷ 2 ∷
+    3 ∷ 0 ∷ 1 ∷ 0 ∷ 2 ∷ 1 ∷ 2 ∷
+    6 ∷ 0 ∷ 2 ∷ 0 ∷ 3 ∷ 0 ∷ 4 ∷ 2 ∷ 3 ∷ 2 ∷ 4 ∷ 3 ∷ 4 ∷
+    0 ∷ []) ∷
+    -- 18, but where e is a load
+    alike (broken 18 47)
+    (2 ∷ 2 ∷ 2 ∷ 0 ∷ 0 ∷
+    5 ∷ 0 ∷ 0 ∷ 0 ∷ 0 ∷ 3 ∷ 0 ∷ 1 ∷ 0 ∷ 1 ∷ 1 ∷ 0 ∷ 1 ∷ 1 ∷ 1 ∷ 0 ∷ 1 ∷ 0 ∷ 0 ∷
+    0 ∷
+    2 ∷
+    3 ∷ 0 ∷ 1 ∷ 0 ∷ 2 ∷ 1 ∷ 2 ∷
+    6 ∷ 0 ∷ 2 ∷ 0 ∷ 3 ∷ 0 ∷ 4 ∷ 2 ∷ 3 ∷ 2 ∷ 4 ∷ 3 ∷ 4 ∷
+    0 ∷ []) ∷
+    []
+
+-- Edition 2, byte by byte
+unfoldable pub secondLayoutCases : List Row
+secondLayoutCases =
+    -- No dependencies
+    alike (accepted 20 (1 ∷ 0 ∷ 0 ∷ 0 ∷ []))
+    (2 ∷ 1 ∷ 1 ∷ 0 ∷
+    2 ∷ 0 ∷ 0 ∷ 0 ∷ 0 ∷ 1 ∷ 0 ∷ 0 ∷ 1 ∷
+    0 ∷
+    1 ∷
+    1 ∷ 0 ∷ 1 ∷
+    1 ∷ 0x61 ∷ []) ∷
+    -- A load and a store that depends on it by each class
+    alike (accepted 29 (1 ∷ 0 ∷ 0 ∷ 0 ∷ []))
+    (2 ∷ 1 ∷ 1 ∷ 0 ∷
+    2 ∷ 0 ∷ 0 ∷ 0 ∷ 0 ∷ 1 ∷ 0 ∷ 0 ∷ 1 ∷
+    3 ∷ 0 ∷ 0 ∷ 1 ∷ 1 ∷ 0 ∷ 1 ∷ 2 ∷ 0 ∷ 1 ∷
+    1 ∷
+    1 ∷ 0 ∷ 1 ∷
+    1 ∷ 0x61 ∷ []) ∷
+    -- A load that depends on a load by its address
+    alike (done 22)
+    (2 ∷ 1 ∷ 1 ∷ 0 ∷
+    2 ∷ 0 ∷ 0 ∷ 0 ∷ 0 ∷ 0 ∷ 0 ∷ 0 ∷ 0 ∷
+    1 ∷ 0 ∷ 0 ∷ 1 ∷
+    1 ∷ 0 ∷ 1 ∷
+    1 ∷ 0x61 ∷ []) ∷
+    -- Kind 4
+    alike (refusal 3 5)
+    (2 ∷ 1 ∷ 1 ∷ 0 ∷
+    2 ∷ 4 ∷ 0 ∷ 1 ∷ 0 ∷ 0 ∷ 1 ∷
+    0 ∷
+    1 ∷
+    1 ∷ 0 ∷ 1 ∷
+    1 ∷ 0x61 ∷ []) ∷
+    -- 97 dependencies
+    alike (refusal 3 13)
+    (2 ∷ 1 ∷ 1 ∷ 0 ∷
+    2 ∷ 0 ∷ 0 ∷ 0 ∷ 0 ∷ 1 ∷ 0 ∷ 0 ∷ 1 ∷
+    97 ∷ 0 ∷ 0 ∷ 1 ∷
+    1 ∷
+    1 ∷ 0 ∷ 1 ∷
+    1 ∷ 0x61 ∷ []) ∷
+    -- Class 3
+    alike (refusal 3 14)
+    (2 ∷ 1 ∷ 1 ∷ 0 ∷
+    2 ∷ 0 ∷ 0 ∷ 0 ∷ 0 ∷ 1 ∷ 0 ∷ 0 ∷ 1 ∷
+    1 ∷ 3 ∷ 0 ∷ 1 ∷
+    1 ∷
+    1 ∷ 0 ∷ 1 ∷
+    1 ∷ 0x61 ∷ []) ∷
+    -- From k
+    alike (refusal 3 15)
+    (2 ∷ 1 ∷ 1 ∷ 0 ∷
+    2 ∷ 0 ∷ 0 ∷ 0 ∷ 0 ∷ 1 ∷ 0 ∷ 0 ∷ 1 ∷
+    1 ∷ 0 ∷ 2 ∷ 1 ∷
+    1 ∷
+    1 ∷ 0 ∷ 1 ∷
+    1 ∷ 0x61 ∷ []) ∷
+    -- To k
+    alike (refusal 3 16)
+    (2 ∷ 1 ∷ 1 ∷ 0 ∷
+    2 ∷ 0 ∷ 0 ∷ 0 ∷ 0 ∷ 1 ∷ 0 ∷ 0 ∷ 1 ∷
+    1 ∷ 0 ∷ 0 ∷ 2 ∷
+    1 ∷
+    1 ∷ 0 ∷ 1 ∷
+    1 ∷ 0x61 ∷ []) ∷
+    -- To k, from a store: tested for 4 once all three are read
+    alike (refusal 3 16)
+    (2 ∷ 1 ∷ 1 ∷ 0 ∷
+    2 ∷ 0 ∷ 0 ∷ 0 ∷ 0 ∷ 1 ∷ 0 ∷ 0 ∷ 1 ∷
+    1 ∷ 0 ∷ 1 ∷ 2 ∷
+    1 ∷
+    1 ∷ 0 ∷ 1 ∷
+    1 ∷ 0x61 ∷ []) ∷
+    -- Without events no number is an event's
+    alike (refusal 3 7)
+    (2 ∷ 1 ∷ 1 ∷ 0 ∷
+    0 ∷
+    1 ∷ 0 ∷ 0 ∷ 0 ∷
+    0 ∷
+    1 ∷ 0x61 ∷ []) ∷
+    -- A data dependency into a load
+    alike (refusal 4 14)
+    (2 ∷ 1 ∷ 1 ∷ 0 ∷
+    2 ∷ 0 ∷ 0 ∷ 0 ∷ 0 ∷ 0 ∷ 0 ∷ 0 ∷ 0 ∷
+    1 ∷ 1 ∷ 0 ∷ 1 ∷
+    1 ∷ 0 ∷ 1 ∷
+    1 ∷ 0x61 ∷ []) ∷
+    -- A control dependency to a load
+    alike (refusal 4 14)
+    (2 ∷ 1 ∷ 1 ∷ 0 ∷
+    2 ∷ 0 ∷ 0 ∷ 0 ∷ 0 ∷ 0 ∷ 0 ∷ 0 ∷ 0 ∷
+    1 ∷ 2 ∷ 0 ∷ 1 ∷
+    1 ∷ 0 ∷ 1 ∷
+    1 ∷ 0x61 ∷ []) ∷
+    -- From a store
+    alike (refusal 4 14)
+    (2 ∷ 1 ∷ 1 ∷ 0 ∷
+    2 ∷ 1 ∷ 0 ∷ 0 ∷ 0 ∷ 0 ∷ 0 ∷ 0 ∷ 0 ∷
+    1 ∷ 0 ∷ 0 ∷ 1 ∷
+    0 ∷
+    1 ∷ 0 ∷ 1 ∷
+    1 ∷ 0x61 ∷ []) ∷
+    -- From an lwsync
+    alike (refusal 4 12)
+    (2 ∷ 1 ∷ 1 ∷ 0 ∷
+    2 ∷ 3 ∷ 0 ∷ 0 ∷ 0 ∷ 0 ∷ 0 ∷
+    1 ∷ 0 ∷ 0 ∷ 1 ∷
+    1 ∷ 0 ∷ 1 ∷
+    1 ∷ 0x61 ∷ []) ∷
+    -- To a sync
+    alike (refusal 4 12)
+    (2 ∷ 1 ∷ 1 ∷ 0 ∷
+    2 ∷ 0 ∷ 0 ∷ 0 ∷ 0 ∷ 2 ∷ 0 ∷
+    1 ∷ 0 ∷ 0 ∷ 1 ∷
+    1 ∷ 0 ∷ 1 ∷
+    1 ∷ 0x61 ∷ []) ∷
+    -- To an lwsync
+    alike (refusal 4 12)
+    (2 ∷ 1 ∷ 1 ∷ 0 ∷
+    2 ∷ 0 ∷ 0 ∷ 0 ∷ 0 ∷ 3 ∷ 0 ∷
+    1 ∷ 0 ∷ 0 ∷ 1 ∷
+    1 ∷ 0 ∷ 1 ∷
+    1 ∷ 0x61 ∷ []) ∷
+    -- To itself
+    alike (refusal 4 14)
+    (2 ∷ 1 ∷ 1 ∷ 0 ∷
+    2 ∷ 0 ∷ 0 ∷ 0 ∷ 0 ∷ 1 ∷ 0 ∷ 0 ∷ 1 ∷
+    1 ∷ 0 ∷ 0 ∷ 0 ∷
+    1 ∷
+    1 ∷ 0 ∷ 1 ∷
+    1 ∷ 0x61 ∷ []) ∷
+    -- To an event listed before
+    alike (refusal 4 14)
+    (2 ∷ 1 ∷ 1 ∷ 0 ∷
+    2 ∷ 0 ∷ 0 ∷ 0 ∷ 0 ∷ 0 ∷ 0 ∷ 0 ∷ 0 ∷
+    1 ∷ 0 ∷ 1 ∷ 0 ∷
+    1 ∷ 0 ∷ 1 ∷
+    1 ∷ 0x61 ∷ []) ∷
+    -- Across threads
+    alike (refusal 4 14)
+    (2 ∷ 2 ∷ 1 ∷ 0 ∷
+    2 ∷ 0 ∷ 0 ∷ 0 ∷ 0 ∷ 1 ∷ 1 ∷ 0 ∷ 1 ∷
+    1 ∷ 0 ∷ 0 ∷ 1 ∷
+    1 ∷
+    0 ∷
+    0 ∷
+    1 ∷ 0x61 ∷ []) ∷
+    -- One equal to the one before
+    alike (refusal 4 17)
+    (2 ∷ 1 ∷ 1 ∷ 0 ∷
+    2 ∷ 0 ∷ 0 ∷ 0 ∷ 0 ∷ 1 ∷ 0 ∷ 0 ∷ 1 ∷
+    2 ∷ 1 ∷ 0 ∷ 1 ∷ 1 ∷ 0 ∷ 1 ∷
+    1 ∷
+    1 ∷ 0 ∷ 1 ∷
+    1 ∷ 0x61 ∷ []) ∷
+    -- One that falls by its class
+    alike (refusal 4 17)
+    (2 ∷ 1 ∷ 1 ∷ 0 ∷
+    2 ∷ 0 ∷ 0 ∷ 0 ∷ 0 ∷ 1 ∷ 0 ∷ 0 ∷ 1 ∷
+    2 ∷ 1 ∷ 0 ∷ 1 ∷ 0 ∷ 0 ∷ 1 ∷
+    1 ∷
+    1 ∷ 0 ∷ 1 ∷
+    1 ∷ 0x61 ∷ []) ∷
+    -- One that falls by its second event
+    alike (refusal 4 21)
+    (2 ∷ 1 ∷ 1 ∷ 0 ∷
+    3 ∷ 0 ∷ 0 ∷ 0 ∷ 0 ∷ 0 ∷ 0 ∷ 0 ∷ 0 ∷ 1 ∷ 0 ∷ 0 ∷ 1 ∷
+    2 ∷ 1 ∷ 0 ∷ 2 ∷ 0 ∷ 0 ∷ 1 ∷
+    2 ∷
+    3 ∷ 0 ∷ 1 ∷ 0 ∷ 2 ∷ 1 ∷ 2 ∷
+    1 ∷ 0x61 ∷ []) ∷
+    -- One that falls by its first event
+    alike (refusal 4 21)
+    (2 ∷ 1 ∷ 1 ∷ 0 ∷
+    3 ∷ 0 ∷ 0 ∷ 0 ∷ 0 ∷ 0 ∷ 0 ∷ 0 ∷ 0 ∷ 1 ∷ 0 ∷ 0 ∷ 1 ∷
+    2 ∷ 0 ∷ 1 ∷ 2 ∷ 0 ∷ 0 ∷ 1 ∷
+    2 ∷
+    3 ∷ 0 ∷ 1 ∷ 0 ∷ 2 ∷ 1 ∷ 2 ∷
+    1 ∷ 0x61 ∷ []) ∷
+    -- They rise by the first event, then by the second, then by class
+    alike (accepted 40 (1 ∷ 0 ∷ 0 ∷ 0 ∷ []))
+    (2 ∷ 1 ∷ 1 ∷ 0 ∷
+    3 ∷ 0 ∷ 0 ∷ 0 ∷ 0 ∷ 0 ∷ 0 ∷ 0 ∷ 0 ∷ 1 ∷ 0 ∷ 0 ∷ 1 ∷
+    4 ∷ 0 ∷ 0 ∷ 1 ∷ 0 ∷ 0 ∷ 2 ∷ 2 ∷ 0 ∷ 2 ∷ 1 ∷ 1 ∷ 2 ∷
+    2 ∷
+    3 ∷ 0 ∷ 1 ∷ 0 ∷ 2 ∷ 1 ∷ 2 ∷
+    1 ∷ 0x61 ∷ []) ∷
+    -- The bytes end inside a dependency: the place is its third number's
+    alike (refusal 1 16)
+    (2 ∷ 1 ∷ 1 ∷ 0 ∷
+    2 ∷ 0 ∷ 0 ∷ 0 ∷ 0 ∷ 1 ∷ 0 ∷ 0 ∷ 1 ∷
+    1 ∷ 0 ∷ 0 ∷ []) ∷
+    -- 96 dependencies
+    alike (broken 12 417)
+    (2 ∷ 1 ∷ 4 ∷ 0 ∷ 0 ∷ 0 ∷ 0 ∷
+    24 ∷ 0 ∷ 0 ∷ 0 ∷ 0 ∷ 0 ∷ 0 ∷ 1 ∷ 0 ∷ 1 ∷ 0 ∷ 0 ∷ 1 ∷ 1 ∷ 0 ∷ 1 ∷ 1 ∷ 1 ∷ 0 ∷ 2 ∷ 1 ∷ 1 ∷ 0 ∷ 3 ∷ 1 ∷ 1 ∷ 0 ∷ 0 ∷ 1 ∷
+    1 ∷ 0 ∷ 1 ∷ 1 ∷ 1 ∷ 0 ∷ 2 ∷ 1 ∷ 1 ∷ 0 ∷ 3 ∷ 1 ∷ 1 ∷ 0 ∷ 0 ∷ 1 ∷ 1 ∷ 0 ∷ 1 ∷ 1 ∷ 1 ∷ 0 ∷ 2 ∷ 1 ∷ 1 ∷ 0 ∷ 3 ∷ 1 ∷ 1 ∷
+    0 ∷ 0 ∷ 1 ∷ 1 ∷ 0 ∷ 1 ∷ 1 ∷ 1 ∷ 0 ∷ 2 ∷ 1 ∷ 1 ∷ 0 ∷ 3 ∷ 1 ∷ 1 ∷ 0 ∷ 0 ∷ 1 ∷ 1 ∷ 0 ∷ 1 ∷ 1 ∷ 1 ∷ 0 ∷ 2 ∷ 1 ∷ 1 ∷ 0 ∷
+    3 ∷ 1 ∷ 1 ∷ 0 ∷ 0 ∷ 1 ∷ 1 ∷ 0 ∷ 1 ∷ 1 ∷
+    96 ∷ 0 ∷ 0 ∷ 1 ∷ 0 ∷ 0 ∷ 2 ∷ 1 ∷ 0 ∷ 2 ∷ 2 ∷ 0 ∷ 2 ∷ 0 ∷ 0 ∷ 3 ∷ 1 ∷ 0 ∷ 3 ∷ 2 ∷ 0 ∷ 3 ∷ 0 ∷ 0 ∷ 4 ∷ 1 ∷ 0 ∷ 4 ∷ 2 ∷
+    0 ∷ 4 ∷ 0 ∷ 0 ∷ 5 ∷ 1 ∷ 0 ∷ 5 ∷ 2 ∷ 0 ∷ 5 ∷ 0 ∷ 0 ∷ 6 ∷ 1 ∷ 0 ∷ 6 ∷ 2 ∷ 0 ∷ 6 ∷ 0 ∷ 0 ∷ 7 ∷ 1 ∷ 0 ∷ 7 ∷ 2 ∷ 0 ∷ 7 ∷
+    0 ∷ 0 ∷ 8 ∷ 1 ∷ 0 ∷ 8 ∷ 2 ∷ 0 ∷ 8 ∷ 0 ∷ 0 ∷ 9 ∷ 1 ∷ 0 ∷ 9 ∷ 2 ∷ 0 ∷ 9 ∷ 0 ∷ 0 ∷ 10 ∷ 1 ∷ 0 ∷ 10 ∷ 2 ∷ 0 ∷ 10 ∷ 0 ∷
+    0 ∷ 11 ∷ 1 ∷ 0 ∷ 11 ∷ 2 ∷ 0 ∷ 11 ∷ 0 ∷ 0 ∷ 12 ∷ 1 ∷ 0 ∷ 12 ∷ 2 ∷ 0 ∷ 12 ∷ 0 ∷ 0 ∷ 13 ∷ 1 ∷ 0 ∷ 13 ∷ 2 ∷ 0 ∷ 13 ∷ 0 ∷
+    0 ∷ 14 ∷ 1 ∷ 0 ∷ 14 ∷ 2 ∷ 0 ∷ 14 ∷ 0 ∷ 0 ∷ 15 ∷ 1 ∷ 0 ∷ 15 ∷ 2 ∷ 0 ∷ 15 ∷ 0 ∷ 0 ∷ 16 ∷ 1 ∷ 0 ∷ 16 ∷ 2 ∷ 0 ∷ 16 ∷ 0 ∷
+    0 ∷ 17 ∷ 1 ∷ 0 ∷ 17 ∷ 2 ∷ 0 ∷ 17 ∷ 0 ∷ 0 ∷ 18 ∷ 1 ∷ 0 ∷ 18 ∷ 2 ∷ 0 ∷ 18 ∷ 0 ∷ 0 ∷ 19 ∷ 1 ∷ 0 ∷ 19 ∷ 2 ∷ 0 ∷ 19 ∷ 0 ∷
+    0 ∷ 20 ∷ 1 ∷ 0 ∷ 20 ∷ 2 ∷ 0 ∷ 20 ∷ 0 ∷ 0 ∷ 21 ∷ 1 ∷ 0 ∷ 21 ∷ 2 ∷ 0 ∷ 21 ∷ 0 ∷ 0 ∷ 22 ∷ 1 ∷ 0 ∷ 22 ∷ 2 ∷ 0 ∷ 22 ∷ 0 ∷
+    0 ∷ 23 ∷ 1 ∷ 0 ∷ 23 ∷ 2 ∷ 0 ∷ 23 ∷ 0 ∷ 1 ∷ 2 ∷ 1 ∷ 1 ∷ 2 ∷ 2 ∷ 1 ∷ 2 ∷ 0 ∷ 1 ∷ 3 ∷ 1 ∷ 1 ∷ 3 ∷ 2 ∷ 1 ∷ 3 ∷ 0 ∷ 1 ∷
+    4 ∷ 1 ∷ 1 ∷ 4 ∷ 2 ∷ 1 ∷ 4 ∷ 0 ∷ 1 ∷ 5 ∷ 1 ∷ 1 ∷ 5 ∷ 2 ∷ 1 ∷ 5 ∷ 0 ∷ 1 ∷ 6 ∷ 1 ∷ 1 ∷ 6 ∷ 2 ∷ 1 ∷ 6 ∷ 0 ∷ 1 ∷ 7 ∷ 1 ∷
+    1 ∷ 7 ∷ 2 ∷ 1 ∷ 7 ∷ 0 ∷ 1 ∷ 8 ∷ 1 ∷ 1 ∷ 8 ∷ 2 ∷ 1 ∷ 8 ∷ 0 ∷ 1 ∷ 9 ∷ 1 ∷ 1 ∷ 9 ∷ 2 ∷ 1 ∷ 9 ∷ 0 ∷ 1 ∷ 10 ∷ 1 ∷ 1 ∷ 10 ∷
+    2 ∷ 1 ∷ 10 ∷ 0 ∷ 1 ∷ 11 ∷ 1 ∷ 1 ∷ 11 ∷
+    2 ∷ 6 ∷ 10 ∷ 14 ∷ 18 ∷ 22 ∷ 3 ∷ 7 ∷ 11 ∷ 15 ∷ 19 ∷ 23 ∷ 4 ∷ 8 ∷ 12 ∷ 16 ∷ 20 ∷ 5 ∷ 9 ∷ 13 ∷ 17 ∷ 21 ∷
+    0 ∷
+    0 ∷ []) ∷
+    []
+
 -- The layout, byte by byte
 unfoldable pub layoutCases : List Row
 layoutCases =
@@ -566,9 +1046,9 @@ layoutCases =
     1 ∷ 0 ∷ 1 ∷
     1 ∷ 97 ∷
     9 ∷ 0x09 ∷ []) ∷
-    -- Edition 2
+    -- Edition 3
     alike (refusal 3 0)
-    (2 ∷ 1 ∷ 1 ∷ 0 ∷
+    (3 ∷ 1 ∷ 1 ∷ 0 ∷
     2 ∷ 1 ∷ 0 ∷ 0 ∷ 1 ∷ 0 ∷ 0 ∷ 0 ∷ 1 ∷
     0 ∷
     1 ∷ 0 ∷ 1 ∷
@@ -655,7 +1135,7 @@ layoutCases =
     alike (refusal 3 4)
     (1 ∷ 1 ∷ 1 ∷ 0 ∷
     25 ∷ []) ∷
-    -- Kind 3
+    -- Kind 3 in edition 1
     alike (refusal 3 5)
     (1 ∷ 1 ∷ 1 ∷ 0 ∷
     2 ∷ 3 ∷ 0 ∷ 0 ∷ 1 ∷ 0 ∷ 0 ∷ 0 ∷ 1 ∷
@@ -977,6 +1457,23 @@ renumberCases =
     1 ∷ 1 ∷ 2 ∷
     0 ∷
     39 ∷ []) ∷
+    -- Edition 2, threads and addresses by 6: an lwsync's thread is rewritten, dependencies stay
+    renumbered 6 6 0 (done 37)
+    (2 ∷ 2 ∷ 2 ∷ 0 ∷ 5 ∷
+    4 ∷ 0 ∷ 0 ∷ 0 ∷ 0 ∷ 3 ∷ 0 ∷ 1 ∷ 0 ∷ 1 ∷ 1 ∷ 1 ∷ 1 ∷ 0 ∷ 2 ∷
+    1 ∷ 1 ∷ 0 ∷ 2 ∷
+    3 ∷ 2 ∷
+    3 ∷ 0 ∷ 1 ∷ 0 ∷ 2 ∷ 1 ∷ 2 ∷
+    1 ∷ 0 ∷ 2 ∷
+    0 ∷ [])
+    (lent 37)
+    (2 ∷ 2 ∷ 2 ∷ 5 ∷ 0 ∷
+    4 ∷ 0 ∷ 1 ∷ 1 ∷ 0 ∷ 3 ∷ 1 ∷ 1 ∷ 1 ∷ 0 ∷ 1 ∷ 1 ∷ 0 ∷ 1 ∷ 2 ∷
+    1 ∷ 1 ∷ 0 ∷ 2 ∷
+    2 ∷ 3 ∷
+    1 ∷ 0 ∷ 2 ∷
+    3 ∷ 0 ∷ 1 ∷ 0 ∷ 2 ∷ 1 ∷ 2 ∷
+    0 ∷ []) ∷
     -- Two threads and one address: 6 fits the threads
     renumbered 6 0 0 (done 8)
     (1 ∷ 2 ∷ 1 ∷ 0 ∷
@@ -1008,8 +1505,10 @@ handedCases =
     judgedCase 0 (one 1 1 1 0 1 1 0 0 1 (0 ∷ []) (0x61 ∷ [])) (accepted 13 (1 ∷ 0 ∷ 0 ∷ 0 ∷ [])) ∷
     -- Edition 0
     judgedCase 0 (one 0 1 1 0 1 1 0 0 1 (0 ∷ []) (0x61 ∷ [])) (refusal 3 0) ∷
-    -- Edition 2
-    judgedCase 0 (one 2 1 1 0 1 1 0 0 1 (0 ∷ []) (0x61 ∷ [])) (refusal 3 0) ∷
+    -- Edition 2, whose record has a count of dependencies
+    judgedCase 0 (one 2 1 1 0 1 1 0 0 1 (0 ∷ []) (0x61 ∷ [])) (accepted 14 (1 ∷ 0 ∷ 0 ∷ 0 ∷ [])) ∷
+    -- Edition 3
+    judgedCase 0 (one 3 1 1 0 1 1 0 0 1 (0 ∷ []) (0x61 ∷ [])) (refusal 3 0) ∷
     -- n = 0, no events
     judgedCase 0 (one 1 0 1 0 0 1 0 0 1 [] (0x61 ∷ [])) (refusal 3 0) ∷
     -- n = 5
@@ -1022,8 +1521,44 @@ handedCases =
     judgedCase 0 (one 1 1 1 65536 1 1 0 0 1 (0 ∷ []) (0x61 ∷ [])) (refusal 3 0) ∷
     -- 25 events
     judgedCase 0 (one 1 1 1 0 25 1 0 0 1 (0 ∷ []) (0x61 ∷ [])) (refusal 3 0) ∷
-    -- Kind 3
+    -- Kind 3 in edition 1
     judgedCase 0 (one 1 1 1 0 1 3 0 0 1 (0 ∷ []) (0x61 ∷ [])) (refusal 3 0) ∷
+    -- Kind 4 in edition 2
+    judgedCase 0 (one 2 1 1 0 1 4 0 0 1 (0 ∷ []) (0x61 ∷ [])) (refusal 3 0) ∷
+    -- A store that depends on a load
+    judgedCase 0 (linked (link 1 0 1 ∷ []) (1 ∷ [])) (accepted 22 (1 ∷ 0 ∷ 0 ∷ 0 ∷ [])) ∷
+    -- 97 dependencies, each good
+    judgedCase 0 (linked (table 0 97 (λ _. link 0 0 1)) (1 ∷ [])) (refusal 3 0) ∷
+    -- Class 3; from k; to k, from a store
+    judgedCase 0 (linked (link 3 0 1 ∷ []) (1 ∷ [])) (refusal 3 0) ∷
+    judgedCase 0 (linked (link 0 2 1 ∷ []) (1 ∷ [])) (refusal 3 0) ∷
+    judgedCase 0 (linked (link 0 1 2 ∷ []) (1 ∷ [])) (refusal 3 0) ∷
+    -- From a store, before a dependency of class 3 and a write order that lists a load
+    judgedCase 0 (linked (link 0 1 1 ∷ link 3 0 1 ∷ []) (0 ∷ [])) (refusal 4 0) ∷
+    -- One equal to the one before
+    judgedCase 0 (linked (link 0 0 1 ∷ link 0 0 1 ∷ []) (1 ∷ [])) (refusal 4 0) ∷
+    -- One that falls by its class; class 3 behind it
+    judgedCase 0 (linked (link 1 0 1 ∷ link 0 0 1 ∷ link 3 0 1 ∷ []) (1 ∷ [])) (refusal 4 0) ∷
+    -- Class 3, before a write order that lists a load
+    judgedCase 0 (linked (link 3 0 1 ∷ []) (0 ∷ [])) (refusal 3 0) ∷
+    -- Dependencies are written behind the events, and stay under renumbering
+    written (linked (link 0 0 1 ∷ link 2 0 1 ∷ []) (1 ∷ [])) 1 (done 25)
+    (lent 27)
+    (0 ∷
+    2 ∷ 1 ∷ 1 ∷ 0 ∷
+    2 ∷ 0 ∷ 0 ∷ 0 ∷ 0 ∷ 1 ∷ 0 ∷ 0 ∷ 1 ∷
+    2 ∷ 0 ∷ 0 ∷ 1 ∷ 2 ∷ 0 ∷ 1 ∷
+    1 ∷
+    1 ∷ 0 ∷ 1 ∷
+    0 ∷
+    26 ∷ []) ∷
+    renumberedCase 1 1 (linked (link 0 0 1 ∷ link 2 0 1 ∷ []) (1 ∷ [])) (done 25)
+    (2 ∷ 1 ∷ 1 ∷ 0 ∷
+    2 ∷ 0 ∷ 0 ∷ 0 ∷ 0 ∷ 1 ∷ 0 ∷ 0 ∷ 1 ∷
+    2 ∷ 0 ∷ 0 ∷ 1 ∷ 2 ∷ 0 ∷ 1 ∷
+    1 ∷
+    1 ∷ 0 ∷ 1 ∷
+    0 ∷ []) ∷
     -- Thread n
     judgedCase 0 (one 1 1 1 0 1 1 1 0 1 (0 ∷ []) (0x61 ∷ [])) (refusal 3 0) ∷
     -- Address m
@@ -1083,6 +1618,15 @@ handedCases =
     0 ∷
     1 ∷ 0x61 ∷
     10 ∷ 11 ∷ 12 ∷ 13 ∷ 14 ∷ []) ∷
+    -- Nor an lwsync's
+    written (one 2 1 1 0 1 3 0 9 70000 [] (0x61 ∷ [])) 0 (done 11)
+    (lent 15)
+    (2 ∷ 1 ∷ 1 ∷ 0 ∷
+    1 ∷ 3 ∷ 0 ∷
+    0 ∷
+    0 ∷
+    1 ∷ 0x61 ∷
+    11 ∷ 12 ∷ 13 ∷ 14 ∷ []) ∷
     -- Any bytes in the name
     written (one 1 1 1 0 1 1 0 0 1 (0 ∷ []) (0xFF ∷ 0x00 ∷ [])) 0 (done 14)
     (lent 15)
@@ -1116,5 +1660,5 @@ callCases =
 -- The table
 unfoldable pub records : List Row
 records =
-    paperCases ++ orderCases ++ valueCases ++ barrierCases ++ layoutCases
+    paperCases ++ orderCases ++ valueCases ++ barrierCases ++ secondCases ++ layoutCases ++ secondLayoutCases
     ++ modelCases ++ nameCases ++ renumberCases ++ handedCases ++ callCases

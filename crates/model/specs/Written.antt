@@ -7,11 +7,19 @@ use lib.ListN.{length}
 use Rattle.finite.specs.Lists.{each}
 use Rattle.number.specs.Number.{encode}
 use Rattle.bits.specs.Bit.{bit}
-use Rattle.model.specs.Case.{Case, Event, bare}
+use Rattle.model.specs.Limits.{second}
+use Rattle.model.specs.Case.{Case, Event, Dependency, bare}
 use Rattle.model.specs.Record.{Pair}
 
 unfoldable pub eventBytes : Event → List ℕ
 eventBytes e = encode (e .kind) ++ (encode (e .thread) ++ cond (bare (e .kind)) [] (encode (e .address) ++ encode (e .value)))
+
+unfoldable pub dependencyBytes : Dependency → List ℕ
+dependencyBytes d = encode (d .class) ++ (encode (d .from) ++ encode (d .to))
+
+-- 02 (vi): nothing in edition 1
+unfoldable pub dependenciesBytes : (edition : ℕ) → List Dependency → List ℕ
+dependenciesBytes edition ds = cond (second edition) (encode (length ds) ++ each dependencyBytes ds) []
 
 unfoldable pub pairBytes : Pair → List ℕ
 pairBytes p = encode (p .a) ++ encode (p .b)
@@ -33,6 +41,7 @@ unfoldable pub recordOf : Case → List ℕ
 recordOf c =
     encode (c .edition) ++ (encode (c .n) ++ (encode (c .m) ++ (each encode (c .initials)
     ++ (encode (c .k) ++ (each eventBytes (c .events)
+    ++ (dependenciesBytes (c .edition) (c .dependencies)
     ++ (each (each encode) (c .writes)
     ++ (each (orderBytes (c .k)) (c .orders)
-    ++ (encode (length (c .name)) ++ c .name))))))))
+    ++ (encode (length (c .name)) ++ c .name)))))))))

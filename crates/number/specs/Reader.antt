@@ -3,7 +3,7 @@
 use Prim.Native.Nat.{ℕ, zero, suc, _+_, _-_}
 use mathlib.Core.Bool.{Bool, cond}
 use mathlib.Core.List.{List, [], _∷_, _++_}
-use lib.Dec.{leb}
+use lib.Dec.{leb, ltb}
 use Rattle.number.specs.Number.{readNumber}
 use Rattle.number.specs.declared.Refusal.{Refusal}
 use Rattle.number.specs.declared.NumberRead.{NumberRead}
@@ -72,3 +72,7 @@ within lo hi = unless 3 (λ v. leb lo v) (upTo hi)
 -- a number below b, where b is above 0
 unfoldable pub below : ℕ → Reader ℕ
 below b = upTo (b - 1)
+
+-- a number below b, which may be 0: then there is none
+unfoldable pub under : ℕ → Reader ℕ
+under b = unless 3 (λ v. ltb v b) (upTo b)

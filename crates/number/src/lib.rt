@@ -3,7 +3,7 @@ ghost use mathlib.Core.Path.{_≡_};
 ghost use Prim.Native.Nat.{_+_, _≤_, _<_};
 ghost use lib.ListN.{length};
 ghost use Rattle.number.specs.Number.{readNumber, encode, widest, splice};
-ghost use Rattle.number.specs.Reader.{numberOut, refusalOf, within};
+ghost use Rattle.number.specs.Reader.{numberOut, refusalOf, within, under};
 
 // The most groups of a number.
 pub const GROUPS: usize = 3;
@@ -45,6 +45,20 @@ pub fn read_within(bytes: &[u8], at: usize, least: u32, most: u32) -> NumberRead
         return NumberRead::Refused(3, at);
     }
     NumberRead::Number(v, next)
+}
+
+// Reads a number below a bound, which may be 0: then there is none.
+pub fn read_under(bytes: &[u8], at: usize, bound: u32) -> NumberRead
+    ensures { λ r. ⌜ numberOut r ≡ under bound (now (bytes .entry)) at ⌝ }
+{
+    let read = read_number(bytes, at, bound);
+    let NumberRead::Number(v, next) = read else {
+        return read;
+    };
+    if v < bound {
+        return NumberRead::Number(v, next);
+    }
+    NumberRead::Refused(3, at)
 }
 
 fn wide(x: u8) -> u64

@@ -54,17 +54,21 @@ around k own asked a =
 
 -- ---- 13
 
-pub bound-sync : (own syncs partner a : ℕ) → bit syncs a ≡ true → Set own (λ b. bit own b && (bit syncs a || bit syncs b || bit partner b))
-bound-sync own syncs partner a h = record {
-  has = λ b.
-      sym (ap (λ t. bit own b && (t || bit syncs b || bit partner b)) h ∙ and-true (bit own b));
-}
+-- what a barrier, and what another event, has to keep its place to
+module _ (own barriers partner dependent a : ℕ) where
+  abbrev bound : ℕ → Bool
+  bound b = bit own b && (bit barriers a || bit barriers b || bit partner b || bit dependent b)
 
-pub bound-other : (own syncs partner a : ℕ) → bit syncs a ≡ false
-    → Set (bitAnd own (bitOr syncs partner)) (λ b. bit own b && (bit syncs a || bit syncs b || bit partner b))
-bound-other own syncs partner a h =
-    set-same (share (as-set {x = own} refl) (either (as-set {x = syncs} refl) (as-set {x = partner} refl)))
-    (λ b. ap (λ t. bit own b && (t || bit syncs b || bit partner b)) (sym h))
+  pub bound-barrier : bit barriers a ≡ true → Set own bound
+  bound-barrier h = record {
+    has = λ b.
+        sym (ap (λ t. bit own b && (t || bit barriers b || bit partner b || bit dependent b)) h ∙ and-true (bit own b));
+  }
+
+  pub bound-other : bit barriers a ≡ false → Set (bitAnd own (bitOr (bitOr barriers partner) dependent)) bound
+  bound-other h =
+      set-same (share (as-set {x = own} refl) (either (either (as-set {x = barriers} refl) (as-set {x = partner} refl)) (as-set {x = dependent} refl)))
+      (λ b. ap (λ t. bit own b && (t || bit barriers b || bit partner b || bit dependent b)) (sym h))
 
 -- the earlier listed first, from the later and from the earlier
 pub by-earlier : (k : ℕ) (own : ℕ → Bool) (q r : ℕ → ℕ → Bool)
@@ -100,13 +104,13 @@ by-earlier k own q r = iff onward back
         (all-get k (M a) (imp-e (own a) (all k (M a)) (all-get k R h a (omega arith)) (and-l (own a) (q a b) o)) b lb)
         (and-i (own b) (q a b) ob (and-r (own a) (q a b) o)))))))
 
-pub by-listing : (n k : ℕ) (of : ℕ → ℕ → Bool) (barrier : ℕ → Bool) (oneAddress : ℕ → ℕ → Bool) (asked : Relation)
-    → all n (λ p. all k (listed k (of p) barrier oneAddress (asked p))) ≡ may13 n k of barrier oneAddress asked
+pub by-listing : (n k : ℕ) (of : ℕ → ℕ → Bool) (barrier : ℕ → Bool) (oneAddress depends : ℕ → ℕ → Bool) (asked : Relation)
+    → all n (λ p. all k (listed k (of p) barrier oneAddress depends (asked p))) ≡ may13 n k of barrier oneAddress depends asked
 unfolding may13
-by-listing n k of barrier oneAddress asked =
-    all-same n (λ p. all k (listed k (of p) barrier oneAddress (asked p)))
-    (λ p. all k λ b. of p b ⇒ (all b λ a. (of p a && (barrier a || barrier b || oneAddress a b)) ⇒ asked p a b))
-    (λ p l. sym (by-earlier k (of p) (λ a b. barrier a || barrier b || oneAddress a b) (asked p)))
+by-listing n k of barrier oneAddress depends asked =
+    all-same n (λ p. all k (listed k (of p) barrier oneAddress depends (asked p)))
+    (λ p. all k λ b. of p b ⇒ (all b λ a. (of p a && (barrier a || barrier b || oneAddress a b || depends a b)) ⇒ asked p a b))
+    (λ p l. sym (by-earlier k (of p) (λ a b. barrier a || barrier b || oneAddress a b || depends a b) (asked p)))
 
 -- ---- 14
 

@@ -26,9 +26,10 @@ module _ (k : ℕ) where
   connected own asked a = own a ⇒ (all k λ b. (own b && not (eqb a b)) ⇒ (asked a b || asked b a))
 
   -- the events listed after a that have to come after it do
-  abbrev pub listed : (own barrier : ℕ → Bool) (oneAddress asked : ℕ → ℕ → Bool) → ℕ → Bool
-  listed own barrier oneAddress asked a =
-      own a ⇒ (all k λ b. (own b && (barrier a || barrier b || oneAddress a b)) ⇒ (asked a b || ltb b (a + 1)))
+  abbrev pub listed : (own barrier : ℕ → Bool) (oneAddress depends asked : ℕ → ℕ → Bool) → ℕ → Bool
+  listed own barrier oneAddress depends asked a =
+      own a
+      ⇒ (all k λ b. (own b && (barrier a || barrier b || oneAddress a b || depends a b)) ⇒ (asked a b || ltb b (a + 1)))
 
   -- of n threads: stores that some thread orders after a stand so in the write order
   abbrev pub coherent : (n : ℕ) (isStore : ℕ → Bool) (storeFor written : ℕ → ℕ → Bool) (known : Relation) → ℕ → Bool

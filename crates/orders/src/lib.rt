@@ -241,22 +241,23 @@ pub fn rule12<'a>(
 }
 
 // Of thread p's events, those that a has to keep its place to.
-fn bound_to(own: u64, syncs: u64, partner: u64, a: usize) -> u64
+fn bound_to(own: u64, barriers: u64, partner: u64, dependent: u64, a: usize) -> u64
     requires { ⌜ a < mostEvents ⌝ }
-    ensures { λ r. ⌜ Set r (λ b. bit own b && (bit syncs a || bit syncs b || bit partner b)) ⌝ }
+    ensures { λ r. ⌜ Set r (λ b. bit own b && (bit barriers a || bit barriers b || bit partner b || bit dependent b)) ⌝ }
 {
-    if bits::has(syncs, a) {
+    if bits::has(barriers, a) {
         own
     } else {
-        own & (syncs | partner)
+        own & (barriers | partner | dependent)
     }
 }
 
 // Event a of thread p comes before those listed after it to which it keeps its place.
 fn listed_event(
     own: u64,
-    syncs: u64,
+    barriers: u64,
     partners: &[u64; Case::MOST_EVENTS],
+    dependents: &[u64; Case::MOST_EVENTS],
     asked: &[u64; Case::MOST_THREADS * Case::MOST_EVENTS],
     k: usize,
     p: usize,
@@ -265,11 +266,15 @@ fn listed_event(
     requires { ⌜ k ≤ mostEvents ⌝ }
     requires { ⌜ p < mostThreads ⌝ }
     requires { ⌜ a < k ⌝ }
-    ensures { λ r. ⌜ r ≡ listed k (bit own) (bit syncs) (setIn (now (partners .entry))) (orderIn (now (asked .entry)) p) a ⌝ }
+    ensures { λ r. ⌜ r ≡ listed k (bit own) (bit barriers) (setIn (now (partners .entry))) (setIn (now (dependents .entry))) (orderIn (now (asked .entry)) p) a ⌝ }
 {
     if bits::has(own, a) {
         let placed = rows::row(asked, p, a) | bits::below(a + 1);
-        bits::inside_below(bound_to(own, syncs, partners[a], a), placed, k)
+        bits::inside_below(
+            bound_to(own, barriers, partners[a], dependents[a], a),
+            placed,
+            k,
+        )
     } else {
         true
     }
@@ -278,19 +283,21 @@ fn listed_event(
 // Thread p's order keeps its program order.
 fn listed_order(
     own: u64,
-    syncs: u64,
+    barriers: u64,
     partners: &[u64; Case::MOST_EVENTS],
+    dependents: &[u64; Case::MOST_EVENTS],
     asked: &[u64; Case::MOST_THREADS * Case::MOST_EVENTS],
     k: usize,
     p: usize,
 ) -> bool
     requires { ⌜ k ≤ mostEvents ⌝ }
     requires { ⌜ p < mostThreads ⌝ }
-    ensures { λ r. ⌜ r ≡ all k (listed k (bit own) (bit syncs) (setIn (now (partners .entry))) (orderIn (now (asked .entry)) p)) ⌝ }
+    ensures { λ r. ⌜ r ≡ all k (listed k (bit own) (bit barriers) (setIn (now (partners .entry))) (setIn (now (dependents .entry))) (orderIn (now (asked .entry)) p)) ⌝ }
 {
     let mut rest = bits::both(own, bits::below(k));
     while rest != 0 {
-        if !listed_event(own, syncs, partners, asked, k, p, rows::lowest(rest)) {
+        let a = rows::lowest(rest);
+        if !listed_event(own, barriers, partners, dependents, asked, k, p, a) {
             return false;
         }
         rest = rows::but_lowest(rest);
@@ -298,21 +305,22 @@ fn listed_order(
     true
 }
 
-// Rule 13. `partners` holds, by event, the events that use its address.
+// Rule 13. `partners` holds, by event, the events that use its address, `dependents` those that depend on it.
 pub fn rule13<'a>(
     own: &'a [u64; Case::MOST_THREADS],
-    syncs: u64,
+    barriers: u64,
     partners: &'a [u64; Case::MOST_EVENTS],
+    dependents: &'a [u64; Case::MOST_EVENTS],
     asked: &'a [u64; Case::MOST_THREADS * Case::MOST_EVENTS],
     n: usize,
     k: usize,
 ) -> bool
     requires { ⌜ n ≤ mostThreads ⌝ }
     requires { ⌜ k ≤ mostEvents ⌝ }
-    ensures { λ r. ⌜ r ≡ may13 n k (setIn (now (own .entry))) (bit syncs) (setIn (now (partners .entry))) (orderIn (now (asked .entry))) ⌝ }
+    ensures { λ r. ⌜ r ≡ may13 n k (setIn (now (own .entry))) (bit barriers) (setIn (now (partners .entry))) (setIn (now (dependents .entry))) (orderIn (now (asked .entry))) ⌝ }
 {
     for p in 0..n {
-        if !listed_order(own[p], syncs, partners, asked, k, p) {
+        if !listed_order(own[p], barriers, partners, dependents, asked, k, p) {
             return false;
         }
     }

@@ -24,11 +24,11 @@ use Rattle.reader.proofs.Filling.{Done, stop-of, next-of}
 pub up-to-most : (s : List ℕ) (at hi v p : ℕ) (r : NumberRead) → r ≡ Number v p → r ≡ readNumber s at hi → v ≤ hi
 up-to-most s at hi v p r u e = read-within s at hi v p (sym e ∙ u)
 
-number-stop : (r : NumberRead) (o : Out ℕ) (f : Refusal) (x p : ℕ) → numberOut r ≡ o → r ≡ Refused x p → f ≡ refusalOf r → o ≡ stop (f .number) (f .place)
+pub number-stop : (r : NumberRead) (o : Out ℕ) (f : Refusal) (x p : ℕ) → numberOut r ≡ o → r ≡ Refused x p → f ≡ refusalOf r → o ≡ stop (f .number) (f .place)
 unfolding refusalOf
 number-stop r o f x p e u g = sym e ∙ rw (g, u)
 
-place-stop : {A : Type 0} (S : A → Type 0) (o : Out A) (r : PlaceRead) (f g : Refusal) → Stores S o r → r ≡ place.Refused f → g ≡ refusedAt r
+pub place-stop : {A : Type 0} (S : A → Type 0) (o : Out A) (r : PlaceRead) (f g : Refusal) → Stores S o r → r ≡ place.Refused f → g ≡ refusedAt r
     → o ≡ stop (g .number) (g .place)
 unfolding refusedAt
 place-stop S o r f g h u e = stop-of S o r f h u ∙ rw (e, u)
@@ -64,8 +64,8 @@ module _ (s : List ℕ) (at : ℕ) where
       whole-head r₃ m p₃ e u = let h₃ : within 1 mostAddresses s p₂ ≡ next m p₃ = sym e ∙ ap numberOut u in rw (h₁, h₂, h₃)
 
 -- initial values and events
-module _ (s : List ℕ) (at n m : ℕ) (r₁ : PlaceRead) (initial : List ℕ) (g₁ : Stores (Padded mostAddresses initial) (times m (upTo mostValue) s at) r₁) where
-  pub no-initials : (S : Listing → Type 0) (f g : Refusal) → r₁ ≡ place.Refused f → g ≡ refusedAt r₁ → StoresCounted (λ l. l .k) S (listing n m s at) (counted.Refused g)
+module _ (s : List ℕ) (at edition n m : ℕ) (r₁ : PlaceRead) (initial : List ℕ) (g₁ : Stores (Padded mostAddresses initial) (times m (upTo mostValue) s at) r₁) where
+  pub no-initials : (S : Listing → Type 0) (f g : Refusal) → r₁ ≡ place.Refused f → g ≡ refusedAt r₁ → StoresCounted (λ l. l .k) S (listing edition n m s at) (counted.Refused g)
   unfolding listing
   no-initials S f g u e = rw (place-stop (Padded mostAddresses initial) (times m (upTo mostValue) s at) r₁ f g g₁ u e) refl
 
@@ -74,27 +74,27 @@ module _ (s : List ℕ) (at n m : ℕ) (r₁ : PlaceRead) (initial : List ℕ) (
     d₁ = next-of (Padded mostAddresses initial) (times m (upTo mostValue) s at) r₁ p₁ g₁ u₁
 
     pub no-count : (S : Listing → Type 0) (r₂ : NumberRead) (f : Refusal) (x p : ℕ) → r₂ ≡ readNumber s p₁ mostEvents → r₂ ≡ Refused x p → f ≡ refusalOf r₂
-        → StoresCounted (λ l. l .k) S (listing n m s at) (counted.Refused f)
+        → StoresCounted (λ l. l .k) S (listing edition n m s at) (counted.Refused f)
     unfolding listing upTo
     no-count S r₂ f x p e u g = rw (d₁ .is, number-stop r₂ _ f x p (ap numberOut e) u g) refl
 
     module _ (r₂ : NumberRead) (k p₂ : ℕ) (e₂ : r₂ ≡ readNumber s p₁ mostEvents) (u₂ : r₂ ≡ Number k p₂)
-        (r₃ : PlaceRead) (ks ts as′ vs : List ℕ) (g₃ : Stores (Events ks ts as′ vs) (times k (event n m) s p₂) r₃) where
+        (r₃ : PlaceRead) (ks ts as′ vs : List ℕ) (g₃ : Stores (Events ks ts as′ vs) (times k (event edition n m) s p₂) r₃) where
       k₂ : upTo mostEvents s p₁ ≡ next k p₂
       unfolding upTo
       k₂ = ap numberOut (sym e₂ ∙ u₂)
 
-      pub no-events-read : (S : Listing → Type 0) (f g : Refusal) → r₃ ≡ place.Refused f → g ≡ refusedAt r₃ → StoresCounted (λ l. l .k) S (listing n m s at) (counted.Refused g)
+      pub no-events-read : (S : Listing → Type 0) (f g : Refusal) → r₃ ≡ place.Refused f → g ≡ refusedAt r₃ → StoresCounted (λ l. l .k) S (listing edition n m s at) (counted.Refused g)
       unfolding listing
-      no-events-read S f g u e = rw (d₁ .is, k₂, place-stop (Events ks ts as′ vs) (times k (event n m) s p₂) r₃ f g g₃ u e) refl
+      no-events-read S f g u e = rw (d₁ .is, k₂, place-stop (Events ks ts as′ vs) (times k (event edition n m) s p₂) r₃ f g g₃ u e) refl
 
-      listing-of : (p₃ : ℕ) → Done (Events ks ts as′ vs) (times k (event n m) s p₂) p₃
-          → StoresCounted (λ l. l .k) (ListingStored initial ks ts as′ vs) (listing n m s at) (counted.Count k p₃)
+      listing-of : (p₃ : ℕ) → Done (Events ks ts as′ vs) (times k (event edition n m) s p₂) p₃
+          → StoresCounted (λ l. l .k) (ListingStored initial ks ts as′ vs) (listing edition n m s at) (counted.Count k p₃)
       unfolding listing
       listing-of p₃ d = rw (d₁ .is, k₂, d .is) (refl, record { initials = d₁ .stored; events = d .stored; few = read-within s p₁ mostEvents k p₂ (sym e₂ ∙ u₂) })
 
-      pub whole-listing : (p₃ : ℕ) → r₃ ≡ place.Next p₃ → StoresCounted (λ l. l .k) (ListingStored initial ks ts as′ vs) (listing n m s at) (counted.Count k p₃)
-      whole-listing p₃ u = listing-of p₃ (next-of (Events ks ts as′ vs) (times k (event n m) s p₂) r₃ p₃ g₃ u)
+      pub whole-listing : (p₃ : ℕ) → r₃ ≡ place.Next p₃ → StoresCounted (λ l. l .k) (ListingStored initial ks ts as′ vs) (listing edition n m s at) (counted.Count k p₃)
+      whole-listing p₃ u = listing-of p₃ (next-of (Events ks ts as′ vs) (times k (event edition n m) s p₂) r₃ p₃ g₃ u)
 
 -- write orders, orders and name
 module _ (s : List ℕ) (at n m k : ℕ) (ks as′ : List ℕ) (r₁ : PlaceRead) (ws : List ℕ)

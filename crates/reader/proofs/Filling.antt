@@ -44,6 +44,11 @@ module _ {A : Type 0} (Stored : List A → Type 0) (r : List A → Reader A) (al
       same = sym (turns-next (λ as′. another (r as′) as′) s (k - i) (k - (i + 1)) (h .read) (h .read ++ (a ∷ [])) at p (omega arith) (another-next (r (h .read)) (h .read) s at a p (f (h .read) (h .count) (h .stored)))) ∙ h .same;
     }
 
+-- what is stored so is stored so too
+pub stores-map : {A : Type 0} (S T : A → Type 0) → ((a : A) → S a → T a) → (o : Out A) (r : PlaceRead) → Stores S o r → Stores T o r
+stores-map S T f (stop x p) r h = h
+stores-map S T f (next a p) r h = (h .0, f a (h .1))
+
 -- what a stage's answer says of what it read
 pub stop-of : {A : Type 0} (S : A → Type 0) (o : Out A) (r : PlaceRead) (f : Refusal) → Stores S o r → r ≡ place.Refused f → o ≡ stop (f .number) (f .place)
 stop-of S (stop x p) r f h u =

@@ -1,20 +1,21 @@
 -- Reading goes on, never back, and what was read is within its range.
 -- Assumes nothing.
 use Prim.Native.Nat.{ℕ, zero, suc, _+_, _-_, _*_, _≤_}
-use mathlib.Core.Path.{_≡_, refl}
+use mathlib.Core.Path.{_≡_, refl, subst}
 use mathlib.Core.Bool.{Bool, true, false, not, cond, _&&_}
 use mathlib.Core.List.{List, [], _∷_, _++_}
 use native.Mathlib.Omega.{arith}
 use lib.Dec.{leb, ltb}
-use lib.ListN.{length, take, drop, length-drop}
+use lib.ListN.{length, take, drop, length-append, length-drop}
 use lib.Seq.{length-take-le}
-use borrow.Author.Tests.{leb-true, ltb-false}
+use borrow.Author.Tests.{leb-true, ltb-true, ltb-false}
 use Rattle.number.specs.Number.{Raw, got, short, wrong, groups, readGroups, finish, readNumber}
 use Rattle.number.specs.declared.NumberRead.the-variants.{Number, Refused}
-use Rattle.number.specs.Reader.{Out, stop, next, Reader, give, _>>=_, onward, tested, unless, turns, another, times, numberOut, upTo, within, below}
-use Rattle.model.specs.Limits.{leastEdition, mostEdition, mostThreads, mostAddresses, mostEvents, mostValue, mostName}
-use Rattle.model.specs.Case.{Event, bare, mostKind}
-use Rattle.model.specs.Record.{event, unlisted, writeOrder, nextWriteOrder, pair, rank, risingPair, nextPair, noPairs, order, bytes, head, listing, rest, case, storeTo}
+use Rattle.number.specs.Reader.{Out, stop, next, Reader, give, _>>=_, onward, tested, unless, turns, another, times, numberOut, upTo, within, below, under}
+use Rattle.model.specs.Limits.{leastEdition, mostEdition, second, mostThreads, mostAddresses, mostEvents, mostDependencies, mostValue, mostName}
+use Rattle.model.specs.Case.{Event, Dependency, bare, mostKind, mostClass}
+use Rattle.model.specs.Record.{event, dependency, dependencyGood, dependencyRank, leastAfter, risingDependency, risingDependencies, dependencies, unlisted, writeOrder, nextWriteOrder, pair, rank, risingPair, nextPair, noPairs, order, bytes, head, listing, rest, case, storeTo}
+use Rattle.laws.proofs.Fits.{DependencyFits}
 use Rattle.reader.specs.Answers.{Counts}
 
 -- where reading at a place goes on, it goes on from there or behind, and Q holds of what was read and the next place
@@ -79,6 +80,13 @@ module _ {s : List ℕ} where
           passed true e = record { on = G .on; holds = (G .holds, e) }
           passed false e = tt
 
+  forward-any : {A : Type 0} {r : Reader A} {P : A → ℕ → Type 0} → Forward s r P → Forward s r Any
+  forward-any {A} {r} {P} h = record { from = λ at. go at (r s at) (h .from at) }
+    where
+      go : (at : ℕ) (o : Out A) → Outcome P at o → Outcome Any at o
+      go at (stop x p) G = tt
+      go at (next a p) G = record { on = G .on; holds = tt }
+
   pub forward-turns : {A : Type 0} (f : A → Reader A) → ((a : A) → Forward s (f a) Any) → (i : ℕ) (a : A) → Forward s (turns i f a) Any
   unfolding turns
   forward-turns f h zero a = forward-give Any a (λ p. tt)
@@ -87,9 +95,22 @@ module _ {s : List ℕ} where
   pub forward-another : {A : Type 0} {r : Reader A} {P : A → ℕ → Type 0} → Forward s r P → (as′ : List A) → Forward s (another r as′) Any
   forward-another h as′ = forward-last (λ a. as′ ++ (a ∷ [])) Any h (λ a p t. tt)
 
-  pub forward-times : {A : Type 0} {r : Reader A} {P : A → ℕ → Type 0} → Forward s r P → (i : ℕ) → Forward s (times i r) Any
+  -- as many are read as there are turns
+  forward-more : {A : Type 0} {r : List A → Reader A} {P : A → ℕ → Type 0} → ((before : List A) → Forward s (r before) P) → (i : ℕ) (before : List A)
+      → Forward s (turns i (λ as′. another (r as′) as′) before) (λ as′ p. length as′ ≡ length before + i)
+  unfolding turns
+  forward-more h zero before = forward-give _ before (λ p. omega arith)
+  forward-more {A} {r} h (suc i) before =
+      forward-bind (forward-last (λ a. before ++ (a ∷ [])) (λ as′ p. length as′ ≡ length before + 1) (h before) (λ a p t. length-append before (a ∷ [])))
+      (λ as′ p e. subst (λ (j : ℕ). Forward s (turns i (λ as′. another (r as′) as′) as′) (λ bs q. length bs ≡ j)) (omega (arith, e)) (forward-more h i as′))
+
+  pub forward-list : {A : Type 0} {r : List A → Reader A} {P : A → ℕ → Type 0} → ((before : List A) → Forward s (r before) P) → (i : ℕ)
+      → Forward s (turns i (λ as′. another (r as′) as′) []) (λ as′ p. length as′ ≡ i)
+  forward-list {A} {r} h i = subst (λ (j : ℕ). Forward s (turns i (λ as′. another (r as′) as′) []) (λ bs q. length bs ≡ j)) (omega arith) (forward-more h i [])
+
+  pub forward-times : {A : Type 0} {r : Reader A} {P : A → ℕ → Type 0} → Forward s r P → (i : ℕ) → Forward s (times i r) (λ as′ p. length as′ ≡ i)
   unfolding times
-  forward-times {A} {r} h i = forward-turns (another r) (λ as′. forward-another h as′) i []
+  forward-times {A} {r} h i = forward-list (λ _. h) i
 
   pub forward-up-to : (hi : ℕ) → Forward s (upTo hi) (λ v p. v ≤ hi)
   unfolding upTo readNumber finish
@@ -112,14 +133,46 @@ module _ {s : List ℕ} where
   unfolding below
   forward-below b = forward-up-to (b - 1)
 
-  forward-event : (n m : ℕ) → Forward s (event n m) Any
+  pub forward-under : (b : ℕ) → Forward s (under b) (λ v p. (v ≤ b) × (ltb v b ≡ true))
+  unfolding under
+  forward-under b = forward-unless 3 (λ v. ltb v b) (forward-up-to b)
+
+  forward-event : (edition n m : ℕ) → Forward s (event edition n m) Any
   unfolding event
-  forward-event n m = forward-bind (forward-up-to mostKind) (λ kind p hk. forward-bind (forward-below n) (λ thread q ht. go kind thread (bare kind)))
+  forward-event edition n m = forward-bind (forward-up-to (mostKind edition)) (λ kind p hk. forward-bind (forward-below n) (λ thread q ht. go kind thread (bare kind)))
     where
       go : (kind thread : ℕ) (t : Bool)
           → Forward {A = Event} s (cond t (give (record { kind = kind; thread = thread; address = 0; value = 0 })) (below m >>= λ a. upTo mostValue >>= λ v. give (record { kind = kind; thread = thread; address = a; value = v }))) Any
       go kind thread true = forward-give Any _ (λ p. tt)
       go kind thread false = forward-bind (forward-below m) (λ a p ha. forward-last _ Any (forward-up-to mostValue) (λ v q hv. tt))
+
+  forward-dependency : (k : ℕ) → Forward s (dependency k) (λ d p. DependencyFits k d)
+  unfolding dependency
+  forward-dependency k =
+      forward-bind (forward-up-to mostClass) (λ class p hc.
+      forward-bind (forward-under k) (λ from p hf.
+      forward-last _ (λ d p. DependencyFits k d) (forward-under k) (λ to p ht.
+      record { class = hc; from = ltb-true from k (hf .1); to = ltb-true to k (ht .1) })))
+
+  pub forward-rising-dependency : (k least : ℕ) (good : Dependency → Bool)
+      → Forward s (risingDependency k least good) (λ d p. DependencyFits k d × ((leb least (dependencyRank k d) && good d) ≡ true))
+  unfolding risingDependency
+  forward-rising-dependency k least good = forward-unless 4 (λ d. leb least (dependencyRank k d) && good d) (forward-dependency k)
+
+  pub forward-links : (k i : ℕ) (good : Dependency → Bool)
+      → Forward s (risingDependencies k good i) (λ ds p. length ds ≡ i)
+  unfolding risingDependencies
+  forward-links k i good =
+      forward-list {P = Any} (λ before. forward-any (forward-rising-dependency k (leastAfter k before) good)) i
+
+  pub forward-dependencies : (edition k : ℕ) (good : Dependency → Bool) → Forward s (dependencies edition k good) Any
+  unfolding dependencies
+  forward-dependencies edition k good = go (second edition)
+    where
+      go : (x : Bool) → Forward s (cond x (upTo mostDependencies >>= risingDependencies k good) (give [])) Any
+      go true =
+          forward-bind (forward-up-to mostDependencies) (λ i p _. forward-any (forward-links k i good))
+      go false = forward-give Any [] (λ p. tt)
 
   pub forward-unlisted : (k : ℕ) (mine listed : ℕ → Bool) → Forward s (unlisted k mine listed) (λ e p. (e ≤ k - 1) × ((mine e && not (listed e)) ≡ true))
   unfolding unlisted
@@ -164,12 +217,12 @@ module _ {s : List ℕ} where
       forward-last _ (λ h p. Counts (h .n) (h .m)) (forward-within 1 mostAddresses) (λ m p hm.
       record { threads-least = leb-true 1 n (hn .1); threads-most = hn .0; addresses-least = leb-true 1 m (hm .1); addresses-most = hm .0 })))
 
-  pub forward-listing : (n m : ℕ) → Forward s (listing n m) Any
+  pub forward-listing : (edition n m : ℕ) → Forward s (listing edition n m) (λ l p. length (l .events) ≡ l .k)
   unfolding listing
-  forward-listing n m =
+  forward-listing edition n m =
       forward-bind (forward-times (forward-up-to mostValue) m) (λ initials p _.
       forward-bind (forward-up-to mostEvents) (λ k p _.
-      forward-last _ Any (forward-times (forward-event n m) k) (λ es p _. tt)))
+      forward-last _ (λ l p. length (l .events) ≡ l .k) (forward-times (forward-event edition n m) k) (λ es p e. e)))
 
   -- the name stands at the end
   pub forward-rest : (n m k : ℕ) (mine : ℕ → ℕ → Bool) → Forward s (rest n m k mine) (λ t p. AtEnd s (t .name) p)
@@ -184,5 +237,6 @@ module _ {s : List ℕ} where
   unfolding case
   forward-case =
       forward-bind forward-head (λ h p _.
-      forward-bind (forward-listing (h .n) (h .m)) (λ l p _.
-      forward-last _ (λ c p. AtEnd s (c .name) p) (forward-rest (h .n) (h .m) (l .k) (storeTo (l .events))) (λ t p h. h)))
+      forward-bind (forward-listing (h .edition) (h .n) (h .m)) (λ l p _.
+      forward-bind (forward-dependencies (h .edition) (l .k) (dependencyGood (l .events))) (λ ds p _.
+      forward-last _ (λ c p. AtEnd s (c .name) p) (forward-rest (h .n) (h .m) (l .k) (storeTo (l .events))) (λ t p h. h))))

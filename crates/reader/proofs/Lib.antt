@@ -7,4 +7,5 @@ pub mod Tables
 pub mod Stores
 pub mod Names
 pub mod Fields
+pub mod Links
 pub mod Whole

@@ -57,9 +57,9 @@ module _ (s : List ℕ) (at k least : ℕ) where
       unfolding risingPair unless pair upTo below
       rising l = rw (← e₁, u₁, ← e₂, u₂, le-leb least (a * k + b) l)
 
-      pub falling : a * k + b < least → pairOut (the.Refused (record { number = 4; place = at })) ≡ risingPair k least s at
+      pub falling : a * k + b < least → (f : Refusal) → (f .number ≡ 4) × (f .place ≡ at) → pairOut (the.Refused f) ≡ risingPair k least s at
       unfolding risingPair unless pair upTo below
-      falling l = rw (← e₁, u₁, ← e₂, u₂, lt-leb least (a * k + b) l)
+      falling l f t = rw (t .0, t .1, ← e₁, u₁, ← e₂, u₂, lt-leb least (a * k + b) l)
 
       both-in : 0 < k → In k a b
       both-in z = record {

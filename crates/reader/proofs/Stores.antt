@@ -14,7 +14,7 @@ use Rattle.bits.proofs.Bits.{bit-zero, bit-with}
 use lib.Bits.{bitOr}
 use Rattle.reader.proofs.Forward.{gone, forward-unlisted}
 use Rattle.number.specs.Number.{readNumber}
-use Rattle.number.specs.Reader.{Out, stop, next, unless, upTo, below, numberOut, refusalOf}
+use Rattle.number.specs.Reader.{stop, next, unless, upTo, below, numberOut, refusalOf}
 use Rattle.number.specs.declared.Refusal.{Refusal}
 use Rattle.number.specs.declared.NumberRead.{NumberRead}
 use Rattle.number.specs.declared.NumberRead.the-variants.{Number, Refused}
@@ -23,13 +23,12 @@ use Rattle.model.specs.Limits.{mostEvents}
 use Rattle.model.specs.Record.{member, unlisted, writeOrder}
 use Rattle.case.specs.Held.{pad}
 use Rattle.reader.specs.Answers.{Stores, Padded}
-use Rattle.reader.specs.declared.PlaceRead.{PlaceRead}
 use Rattle.reader.specs.declared.PlaceRead.the-variants as place
 use Rattle.case.specs.Stores.{storeAt}
 use Rattle.case.proofs.Pad.{pad-set}
 use Rattle.case.proofs.WriteOrders.{member-snoc}
 use Rattle.finite.proofs.Tests.{count-le}
-use Rattle.reader.proofs.Filling.{Filling, filling-begun, filling-all, filling-stop, filling-next}
+use Rattle.reader.proofs.Filling.{Filling, filling-begun, filling-all, filling-stop, filling-next, stores-map}
 
 module _ (s : List ℕ) (at k x : ℕ) (ks ts : List ℕ) (listed : ℕ) where
   pub no-number : (r : NumberRead) (y p : ℕ) → r ≡ readNumber s at (k - 1) → r ≡ Refused y p → numberOut r ≡ unlisted k (storeAt ks ts x) (bit listed) s at
@@ -61,10 +60,6 @@ pub record Listed (array : List ℕ) (marks : ℕ) (before : List ℕ) : Type 0 
   pub stored : array ≡ pad mostEvents before
   pub long : length before ≤ mostEvents
   pub marked : (e : ℕ) → bit marks e ≡ member e before
-
-stores-map : {A : Type 0} (S T : A → Type 0) → ((a : A) → S a → T a) → (o : Out A) (r : PlaceRead) → Stores S o r → Stores T o r
-stores-map S T f (stop x p) r h = h
-stores-map S T f (next a p) r h = (h .0, f a (h .1))
 
 pub record Writing (s : List ℕ) (at k x : ℕ) (ks ts array₀ : List ℕ) (total : ℕ) (array : List ℕ) (place marks j : ℕ) : Type 0 where
   pub filling : Filling (Listed array marks) (λ before. unlisted k (storeAt ks ts x) (λ e. member e before)) (writeOrder k (storeAt ks ts x) s at) s total place j

@@ -11,11 +11,12 @@ use Rattle.number.specs.declared.Refusal.{Refusal}
 use Rattle.number.proofs.Encoding.{lt-or-ge}
 use Rattle.model.specs.Limits.{mostEvents}
 use Rattle.model.specs.Case.{Case, Event, noEvent}
-use Rattle.model.specs.Record.{storeTo, head, listing, rest, case, read}
+use Rattle.model.specs.Record.{dependencyGood, dependencies, storeTo, head, listing, rest, case, read}
 use Rattle.model.specs.Answers.{namePart, name as nameOf}
-use Rattle.case.specs.Held.{pad, held, emptyCase}
+use Rattle.case.specs.Held.{pad, goodAt, held, emptyCase}
+use Rattle.case.proofs.Links.{goods-of}
 use Rattle.case.specs.Stores.{storeAt}
-use Rattle.reader.specs.Answers.{Events, Counts, modelHead, headOut, StoresCounted, ListingStored, RestStored, refusedCount, readingOf, readingFrom, partOf}
+use Rattle.reader.specs.Answers.{Events, Links, Counts, modelHead, headOut, StoresCounted, ListingStored, RestStored, refusedCount, readingOf, readingFrom, partOf}
 use Rattle.reader.specs.declared.Head as code
 use Rattle.reader.specs.declared.Reading.{Reading}
 use Rattle.reader.specs.declared.NamePart.{NamePart}
@@ -23,7 +24,7 @@ use Rattle.reader.specs.declared.HeadRead.{HeadRead}
 use Rattle.reader.specs.declared.HeadRead.the-variants as the
 use Rattle.reader.specs.declared.CountRead.{CountRead}
 use Rattle.reader.specs.declared.CountRead.the-variants as counted
-use Rattle.reader.proofs.Forward.{AtEnd, Outcome, gone, forward-head, forward-listing, forward-rest, forward-case}
+use Rattle.reader.proofs.Forward.{AtEnd, Outcome, gone, forward-head, forward-listing, forward-dependencies, forward-rest, forward-case}
 
 pub no-events : Events (replicate mostEvents 0) (replicate mostEvents 0) (replicate mostEvents 0) (replicate mostEvents 0) []
 unfolding pad
@@ -61,6 +62,13 @@ same-store ks ts as′ vs es h x e =
 same-stores : (ks ts as′ vs : List ℕ) (es : List Event) → Events ks ts as′ vs es → storeAt ks as′ ≡ storeTo es
 same-stores ks ts as′ vs es h = λ i x e. same-store ks ts as′ vs es h x e i
 
+-- and which dependencies are good
+same-goods : (k : ℕ) (ks ts as′ vs : List ℕ) (es : List Event) → Events ks ts as′ vs es → length es ≡ k → goodAt k ks ts ≡ dependencyGood es
+unfolding pad
+same-goods k ks ts as′ vs es h size =
+    goods-of k ks ts es size
+    (λ e l. sym (rw (h .kind) (in-list (λ a. a .kind) es _ e (omega arith)))) (λ e l. sym (rw (h .thread) (in-list (λ a. a .thread) es _ e (omega arith))))
+
 -- what a stage with a count says of what it read
 record Counted {A : Type 0} (number : A → ℕ) (S : A → Type 0) (o : Out A) (k p : ℕ) : Type 0 where
   pub what : A
@@ -95,78 +103,62 @@ module _ (s : List ℕ) (start : ℕ) (hd : code.Head) (at : ℕ) (e₁ : head s
   head-counts = gone forward-head start (modelHead hd) at e₁ .holds
 
   module _ (r₂ : CountRead) (initial ks ts as′ vs : List ℕ)
-      (g₂ : StoresCounted (λ l. l .k) (ListingStored initial ks ts as′ vs) (listing (hd .threads) (hd .addresses) s at) r₂) where
+      (g₂ : StoresCounted (λ l. l .k) (ListingStored initial ks ts as′ vs) (listing (hd .edition) (hd .threads) (hd .addresses) s at) r₂) where
     pub no-listing : (f g : Refusal) (res : Reading) → r₂ ≡ counted.Refused f → g ≡ refusedCount r₂ → res ≡ readingOf (stop (g .number) (g .place)) → res ≡ readingFrom start (case s start)
     unfolding case
     no-listing f g res u e a =
-        let h = counted-stop (λ l. l .k) (ListingStored initial ks ts as′ vs) (listing (hd .threads) (hd .addresses) s at) r₂ f g g₂ u e in
+        let h = counted-stop (λ l. l .k) (ListingStored initial ks ts as′ vs) (listing (hd .edition) (hd .threads) (hd .addresses) s at) r₂ f g g₂ u e in
         refused-from start g _ res a (rw (e₁, h))
 
     module _ (k p₂ : ℕ) (u₂ : r₂ ≡ counted.Count k p₂) where
-      d₂ : Counted (λ l. l .k) (ListingStored initial ks ts as′ vs) (listing (hd .threads) (hd .addresses) s at) k p₂
-      d₂ = counted-next (λ l. l .k) (ListingStored initial ks ts as′ vs) (listing (hd .threads) (hd .addresses) s at) r₂ k p₂ g₂ u₂
+      d₂ : Counted (λ l. l .k) (ListingStored initial ks ts as′ vs) (listing (hd .edition) (hd .threads) (hd .addresses) s at) k p₂
+      d₂ = counted-next (λ l. l .k) (ListingStored initial ks ts as′ vs) (listing (hd .edition) (hd .threads) (hd .addresses) s at) r₂ k p₂ g₂ u₂
 
       pub listing-few : k ≤ mostEvents
       listing-few = omega (arith, d₂ .number-is, d₂ .stored .few)
 
-      module _ (r₃ : CountRead) (ws rows name : List ℕ)
-          (g₃ : StoresCounted (λ t. length (t .name)) (RestStored ws rows name) (rest (hd .threads) (hd .addresses) k (storeAt ks as′) s p₂) r₃) where
-        g₃′ : StoresCounted (λ t. length (t .name)) (RestStored ws rows name) (rest (hd .threads) (hd .addresses) (d₂ .what .k) (storeTo (d₂ .what .events)) s p₂) r₃
-        g₃′ = rw (← d₂ .number-is, ← same-stores ks ts as′ vs (d₂ .what .events) (d₂ .stored .events)) g₃
+      module _ (r₄ : CountRead) (xs bs cs : List ℕ)
+          (g₄ : StoresCounted (λ ds. length ds) (Links xs bs cs) (dependencies (hd .edition) k (goodAt k ks ts) s p₂) r₄) where
+        events-long : length (d₂ .what .events) ≡ k
+        events-long = gone (forward-listing (hd .edition) (hd .threads) (hd .addresses)) at (d₂ .what) p₂ (d₂ .is) .holds ∙ sym (d₂ .number-is)
 
-        pub no-rest : (f g : Refusal) (res : Reading) → r₃ ≡ counted.Refused f → g ≡ refusedCount r₃ → res ≡ readingOf (stop (g .number) (g .place)) → res ≡ readingFrom start (case s start)
+        g₄′ : StoresCounted (λ ds. length ds) (Links xs bs cs) (dependencies (hd .edition) (d₂ .what .k) (dependencyGood (d₂ .what .events)) s p₂) r₄
+        g₄′ = rw (← d₂ .number-is, ← same-goods k ks ts as′ vs (d₂ .what .events) (d₂ .stored .events) events-long) g₄
+
+        pub no-links : (f g : Refusal) (res : Reading) → r₄ ≡ counted.Refused f → g ≡ refusedCount r₄ → res ≡ readingOf (stop (g .number) (g .place)) → res ≡ readingFrom start (case s start)
         unfolding case
-        no-rest f g res u e a =
-            let h = counted-stop (λ t. length (t .name)) (RestStored ws rows name) (rest (hd .threads) (hd .addresses) (d₂ .what .k) (storeTo (d₂ .what .events)) s p₂) r₃ f g g₃′ u e in
+        no-links f g res u e a =
+            let h = counted-stop (λ ds. length ds) (Links xs bs cs) (dependencies (hd .edition) (d₂ .what .k) (dependencyGood (d₂ .what .events)) s p₂) r₄ f g g₄′ u e in
             refused-from start g _ res a (rw (e₁, d₂ .is, h))
 
-        module _ (i p₃ : ℕ) (u₃ : r₃ ≡ counted.Count i p₃) where
-          d₃ : Counted (λ t. length (t .name)) (RestStored ws rows name) (rest (hd .threads) (hd .addresses) (d₂ .what .k) (storeTo (d₂ .what .events)) s p₂) i p₃
-          d₃ = counted-next (λ t. length (t .name)) (RestStored ws rows name) (rest (hd .threads) (hd .addresses) (d₂ .what .k) (storeTo (d₂ .what .events)) s p₂) r₃ i p₃ g₃′ u₃
+        module _ (j p₄ : ℕ) (u₄ : r₄ ≡ counted.Count j p₄) where
+          d₄ : Counted (λ ds. length ds) (Links xs bs cs) (dependencies (hd .edition) (d₂ .what .k) (dependencyGood (d₂ .what .events)) s p₂) j p₄
+          d₄ = counted-next (λ ds. length ds) (Links xs bs cs) (dependencies (hd .edition) (d₂ .what .k) (dependencyGood (d₂ .what .events)) s p₂) r₄ j p₄ g₄′ u₄
 
-          pub ends-behind : start ≤ p₃
-          ends-behind =
-              let a = gone forward-head start (modelHead hd) at e₁ in
-              let b = gone (forward-listing (hd .threads) (hd .addresses)) at (d₂ .what) p₂ (d₂ .is) in
-              let c = gone (forward-rest (hd .threads) (hd .addresses) (d₂ .what .k) (storeTo (d₂ .what .events))) p₂ (d₃ .what) p₃ (d₃ .is) in
-              omega (arith, a .on, b .on, c .on)
+          module _ (r₃ : CountRead) (ws rows name : List ℕ)
+              (g₃ : StoresCounted (λ t. length (t .name)) (RestStored ws rows name) (rest (hd .threads) (hd .addresses) k (storeAt ks as′) s p₄) r₃) where
+            g₃′ : StoresCounted (λ t. length (t .name)) (RestStored ws rows name) (rest (hd .threads) (hd .addresses) (d₂ .what .k) (storeTo (d₂ .what .events)) s p₄) r₃
+            g₃′ = rw (← d₂ .number-is, ← same-stores ks ts as′ vs (d₂ .what .events) (d₂ .stored .events)) g₃
 
-          pub whole : _≡_ {A = Reading} (record {
-            number = 0;
-            place = 0;
-            length = p₃ - start;
-            case = record {
-              edition = hd .edition;
-              threads = hd .threads;
-              addresses = hd .addresses;
-              events = k;
-              initial = initial;
-              kind = ks;
-              thread = ts;
-              address = as′;
-              value = vs;
-              writes = ws;
-              rows = rows;
-              name = name;
-              namelength = i;
-            };
-          })
-              (readingFrom start (case s start))
-          unfolding case readingFrom readingOf held
-          whole =
-              let c : Case = record {
-                edition = hd .edition;
-                n = hd .threads;
-                m = hd .addresses;
-                k = d₂ .what .k;
-                initials = d₂ .what .initials;
-                events = d₂ .what .events;
-                writes = d₃ .what .writes;
-                orders = d₃ .what .orders;
-                name = d₃ .what .name;
-              } in
-              let read : case s start ≡ next c p₃ = rw (e₁, d₂ .is, d₃ .is) in
-              let built : _≡_ {A = Reading} (record {
+            pub no-rest : (f g : Refusal) (res : Reading) → r₃ ≡ counted.Refused f → g ≡ refusedCount r₃ → res ≡ readingOf (stop (g .number) (g .place)) → res ≡ readingFrom start (case s start)
+            unfolding case
+            no-rest f g res u e a =
+                let h = counted-stop (λ t. length (t .name)) (RestStored ws rows name) (rest (hd .threads) (hd .addresses) (d₂ .what .k) (storeTo (d₂ .what .events)) s p₄) r₃ f g g₃′ u e in
+                refused-from start g _ res a (rw (e₁, d₂ .is, d₄ .is, h))
+
+            module _ (i p₃ : ℕ) (u₃ : r₃ ≡ counted.Count i p₃) where
+              d₃ : Counted (λ t. length (t .name)) (RestStored ws rows name) (rest (hd .threads) (hd .addresses) (d₂ .what .k) (storeTo (d₂ .what .events)) s p₄) i p₃
+              d₃ = counted-next (λ t. length (t .name)) (RestStored ws rows name) (rest (hd .threads) (hd .addresses) (d₂ .what .k) (storeTo (d₂ .what .events)) s p₄) r₃ i p₃ g₃′ u₃
+
+              pub ends-behind : start ≤ p₃
+              ends-behind =
+                  let a = gone forward-head start (modelHead hd) at e₁ in
+                  let b = gone (forward-listing (hd .edition) (hd .threads) (hd .addresses)) at (d₂ .what) p₂ (d₂ .is) in
+                  let l = gone (forward-dependencies (hd .edition) (d₂ .what .k) (dependencyGood (d₂ .what .events))) p₂ (d₄ .what) p₄ (d₄ .is) in
+                  let c = gone (forward-rest (hd .threads) (hd .addresses) (d₂ .what .k) (storeTo (d₂ .what .events))) p₄ (d₃ .what) p₃ (d₃ .is) in
+                  omega (arith, a .on, b .on, l .on, c .on)
+
+              pub whole : _≡_ {A = Reading} (record {
                 number = 0;
                 place = 0;
                 length = p₃ - start;
@@ -180,34 +172,82 @@ module _ (s : List ℕ) (start : ℕ) (hd : code.Head) (at : ℕ) (e₁ : head s
                   thread = ts;
                   address = as′;
                   value = vs;
+                  dependencies = j;
+                  class = xs;
+                  from = bs;
+                  to = cs;
                   writes = ws;
                   rows = rows;
                   name = name;
                   namelength = i;
                 };
               })
-              (readingFrom start (next c p₃)) =
-              λ j. record {
-                number = 0;
-                place = 0;
-                length = p₃ - start;
-                case = record {
-                  edition = hd .edition;
-                  threads = hd .threads;
-                  addresses = hd .addresses;
-                  events = d₂ .number-is j;
-                  initial = d₂ .stored .initials .stored j;
-                  kind = d₂ .stored .events .kind j;
-                  thread = d₂ .stored .events .thread j;
-                  address = d₂ .stored .events .address j;
-                  value = d₂ .stored .events .value j;
-                  writes = d₃ .stored .writes .stored j;
-                  rows = d₃ .stored .orders .stored j;
-                  name = d₃ .stored .name .stored j;
-                  namelength = d₃ .number-is j;
-                };
-              } in
-              built ∙ ap (readingFrom start) (sym read)
+                  (readingFrom start (case s start))
+              unfolding case readingFrom readingOf held
+              whole =
+                  let c : Case = record {
+                    edition = hd .edition;
+                    n = hd .threads;
+                    m = hd .addresses;
+                    k = d₂ .what .k;
+                    initials = d₂ .what .initials;
+                    events = d₂ .what .events;
+                    dependencies = d₄ .what;
+                    writes = d₃ .what .writes;
+                    orders = d₃ .what .orders;
+                    name = d₃ .what .name;
+                  } in
+                  let read : case s start ≡ next c p₃ = rw (e₁, d₂ .is, d₄ .is, d₃ .is) in
+                  let built : _≡_ {A = Reading} (record {
+                    number = 0;
+                    place = 0;
+                    length = p₃ - start;
+                    case = record {
+                      edition = hd .edition;
+                      threads = hd .threads;
+                      addresses = hd .addresses;
+                      events = k;
+                      initial = initial;
+                      kind = ks;
+                      thread = ts;
+                      address = as′;
+                      value = vs;
+                      dependencies = j;
+                      class = xs;
+                      from = bs;
+                      to = cs;
+                      writes = ws;
+                      rows = rows;
+                      name = name;
+                      namelength = i;
+                    };
+                  })
+                  (readingFrom start (next c p₃)) =
+                  λ y. record {
+                    number = 0;
+                    place = 0;
+                    length = p₃ - start;
+                    case = record {
+                      edition = hd .edition;
+                      threads = hd .threads;
+                      addresses = hd .addresses;
+                      events = d₂ .number-is y;
+                      initial = d₂ .stored .initials .stored y;
+                      kind = d₂ .stored .events .kind y;
+                      thread = d₂ .stored .events .thread y;
+                      address = d₂ .stored .events .address y;
+                      value = d₂ .stored .events .value y;
+                      dependencies = d₄ .number-is y;
+                      class = d₄ .stored .class y;
+                      from = d₄ .stored .from y;
+                      to = d₄ .stored .to y;
+                      writes = d₃ .stored .writes .stored y;
+                      rows = d₃ .stored .orders .stored y;
+                      name = d₃ .stored .name .stored y;
+                      namelength = d₃ .number-is y;
+                    };
+                  } in
+                  built ∙ ap (readingFrom start) (sym read)
 
 -- from a place on
 module _ (s : List ℕ) (at : ℕ) (r₁ : HeadRead) (e₁ : headOut r₁ ≡ head s at) where

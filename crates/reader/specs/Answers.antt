@@ -6,8 +6,8 @@ use mathlib.Core.List.{List, map}
 use lib.ListN.{length}
 use Rattle.number.specs.Reader.{Out, stop, next, Reader, give, _>>=_, upTo, below}
 use Rattle.number.specs.declared.Refusal.{Refusal}
-use Rattle.model.specs.Limits.{mostThreads, mostAddresses, mostEvents, mostValue, mostName}
-use Rattle.model.specs.Case.{Case, Event}
+use Rattle.model.specs.Limits.{mostThreads, mostAddresses, mostEvents, mostDependencies, mostValue, mostName}
+use Rattle.model.specs.Case.{Case, Event, Dependency}
 use Rattle.model.specs.Record.{Pair, Head, Listing, Rest}
 use Rattle.model.specs.Answers.{Part}
 use Rattle.case.specs.Held.{held, emptyCase, pad, rowsOf}
@@ -16,6 +16,8 @@ use Rattle.reader.specs.declared.Reading.{Reading}
 use Rattle.reader.specs.declared.NamePart.{NamePart}
 use Rattle.reader.specs.declared.EventRead.{EventRead}
 use Rattle.reader.specs.declared.EventRead.the-variants as event
+use Rattle.reader.specs.declared.LinkRead.{LinkRead}
+use Rattle.reader.specs.declared.LinkRead.the-variants as link
 use Rattle.reader.specs.declared.PairRead.{PairRead}
 use Rattle.reader.specs.declared.PairRead.the-variants as pair
 use Rattle.reader.specs.declared.PlaceRead.{PlaceRead}
@@ -49,6 +51,10 @@ access kind thread m = do
 abbrev pub eventOut : EventRead → Out Event
 eventOut (event.Event e p) = next (record { kind = e .kind; thread = e .thread; address = e .address; value = e .value }) p
 eventOut (event.Refused f) = stop (f .number) (f .place)
+
+abbrev pub linkOut : LinkRead → Out Dependency
+linkOut (link.Link d p) = next (record { class = d .class; from = d .from; to = d .to }) p
+linkOut (link.Refused f) = stop (f .number) (f .place)
 
 abbrev pub pairOut : PairRead → Out Pair
 pairOut (pair.Pair a b p) = next (record { a = a; b = b }) p
@@ -95,6 +101,12 @@ pub record Events (kinds threads addresses values : List ℕ) (es : List Event) 
   pub thread : threads ≡ pad mostEvents (map (λ e. e .thread) es)
   pub address : addresses ≡ pad mostEvents (map (λ e. e .address) es)
   pub value : values ≡ pad mostEvents (map (λ e. e .value) es)
+
+-- the dependencies in three arrays
+pub record Links (classes froms tos : List ℕ) (ds : List Dependency) : Type 0 where
+  pub class : classes ≡ pad mostDependencies (map (λ d. d .class) ds)
+  pub from : froms ≡ pad mostDependencies (map (λ d. d .from) ds)
+  pub to : tos ≡ pad mostDependencies (map (λ d. d .to) ds)
 
 pub record Counts (n m : ℕ) : Type 0 where
   pub threads-least : 1 ≤ n

@@ -5,11 +5,12 @@ ghost use Prim.Native.Nat.{_*_, _≤_, _<_};
 ghost use lib.ListN.{length, replicate};
 ghost use Rattle.number.specs.Reader.{times, turns, upTo, numberOut, stop, next};
 ghost use Rattle.bits.specs.Bit.{bit};
-ghost use Rattle.model.specs.Limits.{mostThreads, mostAddresses, mostEvents, mostValue, mostName};
-ghost use Rattle.model.specs.Record.{event, risingPair, order, unlisted, writeOrder, nextWriteOrder, bytes as nameBytes, head as headOf, listing as listingOf, rest as restOf, case as caseAt, read};
+ghost use Rattle.model.specs.Limits.{mostThreads, mostAddresses, mostEvents, mostDependencies, mostValue, mostName};
+ghost use Rattle.model.specs.Record.{event, risingDependency, risingDependencies, dependencies as dependenciesOf, risingPair, order, unlisted, writeOrder, nextWriteOrder, bytes as nameBytes, head as headOf, listing as listingOf, rest as restOf, case as caseAt, read};
 ghost use Rattle.model.specs.Answers.{name as nameOf, namePart};
+ghost use Rattle.case.specs.Held.{goodAt};
 ghost use Rattle.case.specs.Stores.{storeAt};
-ghost use Rattle.reader.specs.Answers.{access, eventOut, pairOut, headOut, modelHead, Stores, StoresCounted, Events, Padded, Tabled, Counts, ListingStored, RestStored, refusedAt, refusedCount, readingOf, readingFrom, partOf};
+ghost use Rattle.reader.specs.Answers.{access, eventOut, linkOut, pairOut, headOut, modelHead, Stores, StoresCounted, Events, Links, Padded, Tabled, Counts, ListingStored, RestStored, refusedAt, refusedCount, readingOf, readingFrom, partOf};
 use case::Case;
 use number::NumberRead;
 use number::Refusal;
@@ -35,6 +36,13 @@ pub struct Event {
     pub value: u32,
 }
 
+// A dependency: its class, and the events that it goes from and to.
+pub struct Link {
+    pub class: usize,
+    pub from: usize,
+    pub to: usize,
+}
+
 // The edition, and how many threads and addresses.
 pub struct Head {
     pub edition: usize,
@@ -45,6 +53,12 @@ pub struct Head {
 // An event and the next place, or a refusal.
 pub enum EventRead {
     Event(Event, usize),
+    Refused(Refusal),
+}
+
+// A dependency and the next place, or a refusal.
+pub enum LinkRead {
+    Link(Link, usize),
     Refused(Refusal),
 }
 
@@ -94,12 +108,18 @@ fn read_access(bytes: &[u8], at: usize, kind: u8, thread: u8, addresses: usize) 
     EventRead::Event(event, after_value)
 }
 
-// Reads an event of a case with so many threads and addresses.
-fn read_event(bytes: &[u8], at: usize, threads: usize, addresses: usize) -> EventRead
+// Reads an event of a case of the edition with so many threads and addresses.
+fn read_event(
+    bytes: &[u8],
+    at: usize,
+    edition: usize,
+    threads: usize,
+    addresses: usize,
+) -> EventRead
     requires { ⌜ Counts threads addresses ⌝ }
-    ensures { λ r. ⌜ eventOut r ≡ event threads addresses (now (bytes .entry)) at ⌝ }
+    ensures { λ r. ⌜ eventOut r ≡ event edition threads addresses (now (bytes .entry)) at ⌝ }
 {
-    let kind_read = number::read_number(bytes, at, Case::MOST_KIND as u32);
+    let kind_read = number::read_number(bytes, at, case::most_kind(edition) as u32);
     let NumberRead::Number(kind, after_kind) = kind_read else {
         return EventRead::Refused(number::refused(kind_read));
     };
@@ -123,6 +143,7 @@ fn read_event(bytes: &[u8], at: usize, threads: usize, addresses: usize) -> Even
 fn read_events(
     bytes: &[u8],
     at: usize,
+    edition: usize,
     threads: usize,
     addresses: usize,
     count: usize,
@@ -134,12 +155,12 @@ fn read_events(
     requires { ⌜ Counts threads addresses ⌝ }
     requires { ⌜ count ≤ mostEvents ⌝ }
     requires { ⌜ Events (now kinds) (now owners) (now targets) (now values) [] ⌝ }
-    ensures { λ r. ⌜ Stores (Events (now (kinds .exit)) (now (owners .exit)) (now (targets .exit)) (now (values .exit))) (times count (event threads addresses) (now (bytes .entry)) at) r ⌝ }
+    ensures { λ r. ⌜ Stores (Events (now (kinds .exit)) (now (owners .exit)) (now (targets .exit)) (now (values .exit))) (times count (event edition threads addresses) (now (bytes .entry)) at) r ⌝ }
 {
     let mut place = at;
     let mut e: usize = 0;
     while e < count {
-        let read = read_event(bytes, place, threads, addresses);
+        let read = read_event(bytes, place, edition, threads, addresses);
         match read {
             EventRead::Refused(refusal) => {
                 return PlaceRead::Refused(refusal);
@@ -155,6 +176,130 @@ fn read_events(
         e += 1;
     }
     PlaceRead::Next(place)
+}
+
+// The refusal of what may not stand where it does.
+fn out_of_turn(at: usize) -> Refusal
+    ensures { λ f. ⌜ (f .number ≡ 4) × (f .place ≡ at) ⌝ }
+{
+    Refusal {
+        number: 4,
+        place: at,
+    }
+}
+
+// Reads a dependency among k events, of rank least or above.
+fn read_link(
+    bytes: &[u8],
+    at: usize,
+    k: usize,
+    least: usize,
+    kinds: &[u8; Case::MOST_EVENTS],
+    owners: &[u8; Case::MOST_EVENTS],
+) -> LinkRead
+    requires { ⌜ k ≤ mostEvents ⌝ }
+    ensures { λ r. ⌜ linkOut r ≡ risingDependency k least (goodAt k (now (kinds .entry)) (now (owners .entry))) (now (bytes .entry)) at ⌝ }
+{
+    let class_read = number::read_number(bytes, at, Case::MOST_CLASS as u32);
+    let NumberRead::Number(class, after_class) = class_read else {
+        return LinkRead::Refused(number::refused(class_read));
+    };
+    let from_read = number::read_under(bytes, after_class, k as u32);
+    let NumberRead::Number(from, after_from) = from_read else {
+        return LinkRead::Refused(number::refused(from_read));
+    };
+    let to_read = number::read_under(bytes, after_from, k as u32);
+    let NumberRead::Number(to, after_to) = to_read else {
+        return LinkRead::Refused(number::refused(to_read));
+    };
+    let link = Link {
+        class: class as usize,
+        from: from as usize,
+        to: to as usize,
+    };
+    if case::link_follows(kinds, owners, k, least, link.class, link.from, link.to) {
+        return LinkRead::Link(link, after_to);
+    }
+    LinkRead::Refused(out_of_turn(at))
+}
+
+// Reads count dependencies into three arrays that hold zeros.
+fn read_links(
+    bytes: &[u8],
+    at: usize,
+    k: usize,
+    count: usize,
+    kinds: &[u8; Case::MOST_EVENTS],
+    owners: &[u8; Case::MOST_EVENTS],
+    classes: &mut [u8; Case::MOST_DEPENDENCIES],
+    froms: &mut [u8; Case::MOST_DEPENDENCIES],
+    tos: &mut [u8; Case::MOST_DEPENDENCIES],
+) -> PlaceRead
+    requires { ⌜ k ≤ mostEvents ⌝ }
+    requires { ⌜ count ≤ mostDependencies ⌝ }
+    requires { ⌜ Links (now classes) (now froms) (now tos) [] ⌝ }
+    ensures { λ r. ⌜ Stores (Links (now (classes .exit)) (now (froms .exit)) (now (tos .exit))) (risingDependencies k (goodAt k (now (kinds .entry)) (now (owners .entry))) count (now (bytes .entry)) at) r ⌝ }
+{
+    let mut place = at;
+    let mut least: usize = 0;
+    let mut i: usize = 0;
+    while i < count {
+        let read = read_link(bytes, place, k, least, kinds, owners);
+        match read {
+            LinkRead::Refused(refusal) => {
+                return PlaceRead::Refused(refusal);
+            }
+            LinkRead::Link(link, next) => {
+                classes[i] = link.class as u8;
+                froms[i] = link.from as u8;
+                tos[i] = link.to as u8;
+                least = case::link_rank(k, link.class, link.from, link.to) + 1;
+                place = next;
+            }
+        }
+        i += 1;
+    }
+    PlaceRead::Next(place)
+}
+
+// Reads the dependencies of a record of the edition into three arrays that hold zeros; gives how many: none in edition 1.
+fn read_dependencies(
+    bytes: &[u8],
+    at: usize,
+    edition: usize,
+    k: usize,
+    kinds: &[u8; Case::MOST_EVENTS],
+    owners: &[u8; Case::MOST_EVENTS],
+    classes: &mut [u8; Case::MOST_DEPENDENCIES],
+    froms: &mut [u8; Case::MOST_DEPENDENCIES],
+    tos: &mut [u8; Case::MOST_DEPENDENCIES],
+) -> CountRead
+    requires { ⌜ k ≤ mostEvents ⌝ }
+    requires { ⌜ Links (now classes) (now froms) (now tos) [] ⌝ }
+    ensures { λ r. ⌜ StoresCounted (λ ds. length ds) (Links (now (classes .exit)) (now (froms .exit)) (now (tos .exit))) (dependenciesOf edition k (goodAt k (now (kinds .entry)) (now (owners .entry))) (now (bytes .entry)) at) r ⌝ }
+{
+    if !case::is_second(edition) {
+        return CountRead::Count(0, at);
+    }
+    let count = number::read_number(bytes, at, Case::MOST_DEPENDENCIES as u32);
+    let NumberRead::Number(i, after_count) = count else {
+        return CountRead::Refused(number::refused(count));
+    };
+    let links = read_links(
+        bytes,
+        after_count,
+        k,
+        i as usize,
+        kinds,
+        owners,
+        classes,
+        froms,
+        tos,
+    );
+    let PlaceRead::Next(after_links) = links else {
+        return CountRead::Refused(refused_at(links));
+    };
+    CountRead::Count(i as usize, after_links)
 }
 
 // Reads a pair of event numbers below k, of rank least or above.
@@ -173,10 +318,7 @@ fn read_pair(bytes: &[u8], at: usize, k: usize, least: usize) -> PairRead
     if least <= (a as usize) * k + (b as usize) {
         return PairRead::Pair(a as usize, b as usize, after_second);
     }
-    PairRead::Refused(Refusal {
-        number: 4,
-        place: at,
-    })
+    PairRead::Refused(out_of_turn(at))
 }
 
 // Reads an order of k events into rows that hold zeros.
@@ -426,6 +568,7 @@ fn read_head(bytes: &[u8], at: usize) -> HeadRead
 fn read_listing(
     bytes: &[u8],
     at: usize,
+    edition: usize,
     threads: usize,
     addresses: usize,
     initial: &mut [u32; Case::MOST_ADDRESSES],
@@ -437,7 +580,7 @@ fn read_listing(
     requires { ⌜ Counts threads addresses ⌝ }
     requires { ⌜ now initial ≡ replicate mostAddresses 0 ⌝ }
     requires { ⌜ Events (now kinds) (now owners) (now targets) (now values) [] ⌝ }
-    ensures { λ r. ⌜ StoresCounted (λ l. l .k) (ListingStored (now (initial .exit)) (now (kinds .exit)) (now (owners .exit)) (now (targets .exit)) (now (values .exit))) (listingOf threads addresses (now (bytes .entry)) at) r ⌝ }
+    ensures { λ r. ⌜ StoresCounted (λ l. l .k) (ListingStored (now (initial .exit)) (now (kinds .exit)) (now (owners .exit)) (now (targets .exit)) (now (values .exit))) (listingOf edition threads addresses (now (bytes .entry)) at) r ⌝ }
 {
     let initials = read_initials(bytes, at, addresses, initial);
     let PlaceRead::Next(after_initials) = initials else {
@@ -450,6 +593,7 @@ fn read_listing(
     let events = read_events(
         bytes,
         after_count,
+        edition,
         threads,
         addresses,
         k as usize,
@@ -532,6 +676,7 @@ fn read_body(bytes: &[u8], start: usize, head: Head, at: usize) -> Reading
     let listing = read_listing(
         bytes,
         at,
+        edition,
         threads,
         addresses,
         &mut initial,
@@ -543,12 +688,29 @@ fn read_body(bytes: &[u8], start: usize, head: Head, at: usize) -> Reading
     let CountRead::Count(events, after_events) = listing else {
         return no_case(refused_count(listing));
     };
+    let mut class = [0u8; Case::MOST_DEPENDENCIES];
+    let mut from = [0u8; Case::MOST_DEPENDENCIES];
+    let mut to = [0u8; Case::MOST_DEPENDENCIES];
+    let links = read_dependencies(
+        bytes,
+        after_events,
+        edition,
+        events,
+        &kind,
+        &thread,
+        &mut class,
+        &mut from,
+        &mut to,
+    );
+    let CountRead::Count(dependencies, after_links) = links else {
+        return no_case(refused_count(links));
+    };
     let mut writes = [0u8; Case::MOST_ADDRESSES * Case::MOST_EVENTS];
     let mut rows = [0u64; Case::MOST_THREADS * Case::MOST_EVENTS];
     let mut name = [0u8; Case::MOST_NAME];
     let rest = read_rest(
         bytes,
-        after_events,
+        after_links,
         threads,
         addresses,
         events,
@@ -572,6 +734,10 @@ fn read_body(bytes: &[u8], start: usize, head: Head, at: usize) -> Reading
         thread,
         address,
         value,
+        dependencies,
+        class,
+        from,
+        to,
         writes,
         rows,
         name,

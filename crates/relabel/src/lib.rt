@@ -6,12 +6,13 @@ ghost use Prim.Native.Nat.{_+_, _*_, _%_, _^_, _≤_};
 ghost use lib.ListN.{length, getD, drop};
 ghost use Rattle.finite.specs.Lists.{table};
 ghost use Rattle.permutation.specs.Permutation.{image as imageOf, inverse as inverseOf};
-ghost use Rattle.model.specs.Limits.{mostThreads, mostAddresses, mostEvents};
+ghost use Rattle.model.specs.Limits.{mostThreads, mostAddresses, mostEvents, mostDependencies};
 ghost use Rattle.model.specs.Case.{bare as bareOf};
 ghost use Rattle.model.specs.Renumber.{renumber, fitting};
 ghost use Rattle.case.specs.Held.{caseOf, held, pad, rowsOf};
 ghost use Rattle.case.specs.Stores.{writesAt};
 ghost use Rattle.case.specs.Sound.{Sound};
+ghost use Rattle.relabel.specs.Links.{LinksKept};
 ghost use Rattle.relabel.specs.Orders.{order};
 use case::Case;
 
@@ -186,6 +187,38 @@ fn orders(
     out
 }
 
+// The first i of an array's numbers, by dependency, and zeros.
+fn links(xs: &[u8], i: usize) -> [u8; Case::MOST_DEPENDENCIES]
+    requires { ⌜ i ≤ mostDependencies ⌝ }
+    requires { ⌜ length (now xs) ≡ mostDependencies ⌝ }
+    ensures { λ out. ⌜ out ≡ pad mostDependencies (table 0 i (λ j. getD (now (xs .entry)) j 0)) ⌝ }
+{
+    let mut out = [0u8; Case::MOST_DEPENDENCIES];
+    copy(xs, 0, i, &mut out);
+    out
+}
+
+// A case's dependencies, and zeros.
+pub struct Kept {
+    pub dependencies: usize,
+    pub class: [u8; Case::MOST_DEPENDENCIES],
+    pub from: [u8; Case::MOST_DEPENDENCIES],
+    pub to: [u8; Case::MOST_DEPENDENCIES],
+}
+
+fn kept_links(c: Case) -> Kept
+    requires { ⌜ Sound c ⌝ }
+    ensures { λ r. ⌜ LinksKept c r ⌝ }
+{
+    let i = case::link_count(c.edition, c.dependencies);
+    Kept {
+        dependencies: i,
+        class: links(&c.class, i),
+        from: links(&c.from, i),
+        to: links(&c.to, i),
+    }
+}
+
 // The case under the threads' permutation q and the addresses' permutation r.
 pub fn relabel(c: Case, q: usize, r: usize) -> Case
     requires { ⌜ Sound c ⌝ }
@@ -200,6 +233,10 @@ pub fn relabel(c: Case, q: usize, r: usize) -> Case
     copy(&c.kind, 0, k, &mut kind);
     let mut name = [0u8; Case::MOST_NAME];
     copy(&c.name, 0, c.namelength, &mut name);
+    let links = kept_links(c);
+    let class = links.class;
+    let from = links.from;
+    let to = links.to;
     Case {
         edition: c.edition,
         threads: c.threads,
@@ -210,6 +247,10 @@ pub fn relabel(c: Case, q: usize, r: usize) -> Case
         thread: threads(q, k, &c.thread),
         address: addresses(r, k, &c.kind, &c.address),
         value: values(k, &c.kind, &c.value),
+        dependencies: links.dependencies,
+        class,
+        from,
+        to,
         writes,
         rows,
         name,

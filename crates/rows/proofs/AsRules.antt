@@ -4,7 +4,7 @@ use Prim.Native.Nat.{ℕ}
 use mathlib.Core.Path.{_≡_, refl}
 use lib.Dec.{eqb}
 use Rattle.model.specs.Case.{Case}
-use Rattle.model.specs.Rules.{Model, thread, address, value, initial, isLoad, isStore, isBarrier, of, oneAddress, storeFor, before, everywhere, written, paired, seen, readsFrom, judged, rule11, rule12, rule13, rule14, rule15, rule16, rule17, rule18}
+use Rattle.model.specs.Rules.{Model, thread, address, value, initial, isLoad, isStore, isBarrier, of, oneAddress, depends, applicable, storeFor, before, everywhere, written, paired, seen, readsFrom, judged, rule11, rule12, rule13, rule14, rule15, rule16, rule17, rule18}
 use Rattle.rows.specs.May.{pairs, mustRead, may11, may12, may13, may14, may15, may16, may17, may18}
 
 module _ (c : Case) where
@@ -26,7 +26,7 @@ module _ (c : Case) where
   unfolding may12 rule12
   is12 = refl
 
-  is13 : may13 n k (of c) (isBarrier c) (oneAddress c) (before c) ≡ rule13 c
+  is13 : may13 n k (of c) (isBarrier c) (oneAddress c) (depends c) (before c) ≡ rule13 c
   unfolding may13 rule13
   is13 = refl
 
@@ -42,10 +42,10 @@ module _ (c : Case) where
   unfolding may16 rule16
   is16 w = refl
 
-  is17 : may17 n k (of c) (isBarrier c) (before c) (before c) ≡ rule17 c
+  is17 : may17 n k (of c) (isBarrier c) (applicable c) (before c) (before c) ≡ rule17 c
   unfolding may17 rule17 everywhere
   is17 = refl
 
-  is18 : may18 n k (of c) (isBarrier c) (isStore c) (readsFrom c) (thread c) (before c) (before c) ≡ rule18 c
+  is18 : may18 n k (of c) (isBarrier c) (applicable c) (isStore c) (readsFrom c) (thread c) (before c) (before c) ≡ rule18 c
   unfolding may18 rule18 everywhere
   is18 = refl

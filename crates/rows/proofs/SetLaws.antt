@@ -13,7 +13,7 @@ use lib.Arith.{digits-mod}
 use Rattle.finite.specs.Tests.{all, some, _⇒_}
 use Rattle.bits.specs.Bit.{bit, width}
 use Rattle.bits.proofs.Bits.{bit-zero, bit-or, bit-and, bit-with, bit-below, bit-ones, bit-ext}
-use Rattle.rows.specs.Sets.{Set}
+use Rattle.rows.specs.Sets.{Set, lightIn}
 use Rattle.rows.specs.May.{Relation, pairs}
 use lib.Pow.{pow-pos}
 
@@ -242,6 +242,35 @@ taken-out set i {x} {y} h g = record {
     back true false = refl
     back false true = refl
     back false false = refl
+
+-- a set without what it shares with another
+pub taken-away : {x y : ℕ} {f g : ℕ → Bool} → Set x f → Set y g → Set (bitXor x (bitAnd x y)) (λ e. f e && not (g e))
+taken-away {x} {y} {f} {g} s t = record {
+  has = λ e.
+      bit-xor x (bitAnd x y) e ∙ ap₂ other (s .has e) (share s t .has e) ∙ left (f e) (g e);
+}
+  where
+    left : (b q : Bool) → other b (b && q) ≡ (b && not q)
+    left true true = refl
+    left true false = refl
+    left false q = refl
+
+-- the events below k that a light barrier orders after e, set by set
+pub light-set : (k barriers stores loads e : ℕ) {below near w later r : ℕ} {b s : Bool} → below ≡ 2 ^ k - 1
+    → Set near (λ g. bit below g && not (bit barriers g)) → s ≡ bit stores e → Set w (λ g. s && bit loads g)
+    → Set later (λ g. bit near g && not (bit w g)) → b ≡ bit barriers e → Set r (λ g. not b && bit later g)
+    → Set r (λ g. ltb g k && lightIn barriers stores loads e g)
+light-set k barriers stores loads e hk near hs w later hb r = set-same r (λ g.
+    ap₂ (λ x y. not x && y) hb
+    (later .has g
+    ∙ ap₂ (λ x y. x && not y) (near .has g ∙ ap (λ x. x && not (bit barriers g)) (set-below k hk .has g)) (w .has g ∙ ap (λ x. x && bit loads g) hs))
+    ∙ turn (not (bit barriers e)) (ltb g k) (not (bit barriers g)) (not (bit stores e && bit loads g)))
+  where
+    turn : (a l b x : Bool) → (a && ((l && b) && x)) ≡ (l && (a && b && x))
+    turn true true b x = refl
+    turn true false b x = refl
+    turn false true b x = refl
+    turn false false b x = refl
 
 -- some number of the set passes
 pub some-set : (k : ℕ) {x : ℕ} {f : ℕ → Bool} → Set x f → some k (bit x) ≡ some k f

@@ -2,9 +2,11 @@
 -- Assumes nothing.
 use Prim.Native.Nat.{ℕ, _+_, _*_, _<_}
 use mathlib.Core.Path.{_≡_}
-use mathlib.Core.Bool.{Bool, _&&_}
+use mathlib.Core.Bool.{Bool, not, _&&_, _||_}
 use mathlib.Core.List.{List}
+use lib.Dec.{eqb}
 use lib.ListN.{getD}
+use Rattle.finite.specs.Tests.{some}
 use Rattle.bits.specs.Bit.{bit}
 use Rattle.model.specs.Limits.{mostEvents}
 
@@ -31,3 +33,16 @@ setIn sets x e = bit (getD sets x 0) e
 -- s is a store to the address of l
 abbrev pub storeIn : (stores : ℕ) (partners : List ℕ) → ℕ → ℕ → Bool
 storeIn stores partners l s = bit stores s && setIn partners l s
+
+-- a light barrier orders e before g: neither is a barrier, and they are not a store before a load
+abbrev pub lightIn : (barriers stores loads : ℕ) → ℕ → ℕ → Bool
+lightIn barriers stores loads e g = not (bit barriers e) && not (bit barriers g) && not (bit stores e && bit loads g)
+
+-- barrier f orders e before g: a sync any two events; a light one what light holds, by event e the set of what it orders
+-- after e
+abbrev pub applicableIn : (syncs : ℕ) (light : List ℕ) → ℕ → ℕ → ℕ → Bool
+applicableIn syncs light f e g = bit syncs f || setIn light e g
+
+-- of i dependencies, by the lists of the events that they go from and to, one goes from a to b
+abbrev pub dependsIn : (froms tos : List ℕ) → ℕ → ℕ → ℕ → Bool
+dependsIn froms tos i a b = some i λ j. eqb (getD froms j 0) a && eqb (getD tos j 0) b

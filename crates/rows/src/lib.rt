@@ -8,8 +8,8 @@ ghost use lib.Dec.{eqb, ltb};
 ghost use lib.ListN.{getD};
 ghost use Rattle.finite.specs.Tests.{some};
 ghost use Rattle.bits.specs.Bit.{bit, width};
-ghost use Rattle.model.specs.Limits.{mostThreads, mostAddresses, mostEvents};
-ghost use Rattle.rows.specs.Sets.{Set, Sets, rowIn, orderIn, setIn};
+ghost use Rattle.model.specs.Limits.{mostThreads, mostAddresses, mostEvents, mostDependencies};
+ghost use Rattle.rows.specs.Sets.{Set, Sets, rowIn, orderIn, setIn, lightIn, dependsIn};
 ghost use Rattle.rows.specs.May.{pairs};
 use case::Case;
 
@@ -58,6 +58,13 @@ pub fn without(set: u64, i: usize) -> u64
     ensures { λ r. ⌜ Set r (λ e. bit set e && not (eqb e i)) ⌝ }
 {
     bits::with(set, i) ^ bits::with(0, i)
+}
+
+// The set without the events of the other.
+pub fn minus(set: u64, other: u64) -> u64
+    ensures { λ r. ⌜ Set r (λ e. bit set e && not (bit other e)) ⌝ }
+{
+    set ^ (set & other)
 }
 
 // The first event of a set.
@@ -287,6 +294,48 @@ pub fn by_event(
     let mut out = [0u64; Case::MOST_EVENTS];
     for e in 0..k {
         out[e] = at_label(sets, bytes, set, e);
+    }
+    out
+}
+
+// The events that a light barrier orders after event e.
+fn light_row(barriers: u64, stores: u64, loads: u64, k: usize, e: usize) -> u64
+    requires { ⌜ k ≤ mostEvents ⌝ }
+    requires { ⌜ e < mostEvents ⌝ }
+    ensures { λ r. ⌜ Set r (λ g. ltb g k && lightIn barriers stores loads e g) ⌝ }
+{
+    let accesses = minus(bits::below(k), barriers);
+    let later = minus(accesses, where_so(bits::has(stores, e), loads));
+    where_so(!bits::has(barriers, e), later)
+}
+
+// By event, the events that a light barrier orders after it.
+pub fn light(barriers: u64, stores: u64, loads: u64, k: usize) -> [u64; Case::MOST_EVENTS]
+    requires { ⌜ k ≤ mostEvents ⌝ }
+    ensures { λ r. ⌜ Sets k r (λ e g. ltb g k && lightIn barriers stores loads e g) ⌝ }
+{
+    let mut out = [0u64; Case::MOST_EVENTS];
+    for e in 0..k {
+        out[e] = light_row(barriers, stores, loads, k, e);
+    }
+    out
+}
+
+// By event, the events that depend on it, of so many dependencies.
+pub fn dependents<'a>(
+    froms: &'a [u8; Case::MOST_DEPENDENCIES],
+    tos: &'a [u8; Case::MOST_DEPENDENCIES],
+    count: usize,
+) -> [u64; Case::MOST_EVENTS]
+    requires { ⌜ count ≤ mostDependencies ⌝ }
+    requires { ⌜ ((i : ℕ) → i < count → getD (now froms) i 0 < mostEvents) ⌝ }
+    requires { ⌜ ((i : ℕ) → i < count → getD (now tos) i 0 < mostEvents) ⌝ }
+    ensures { λ r. ⌜ Sets mostEvents r (dependsIn (now (froms .entry)) (now (tos .entry)) count) ⌝ }
+{
+    let mut out = [0u64; Case::MOST_EVENTS];
+    for i in 0..count {
+        let from = froms[i] as usize;
+        out[from] = bits::with(out[from], tos[i] as usize);
     }
     out
 }

@@ -1,23 +1,26 @@
 -- What a struct's arrays say of the case that it means.
 -- Assumes nothing.
 use Prim.Native.Nat.{ℕ, zero, suc, _+_, _*_, _%_, _^_, _≤_, _<_}
+use native.Mathlib.Nat.{zero-add}
 use native.Mathlib.Omega.{arith}
-use mathlib.Core.Path.{_≡_, refl, sym, ap, _∙_}
-use mathlib.Core.Bool.{Bool, true, false, not, cond, _||_, true≢false}
-use mathlib.Core.List.{List, []}
+use mathlib.Core.Path.{_≡_, refl, sym, ap, ap₂, _∙_}
+use mathlib.Core.Bool.{Bool, true, false, not, cond, _&&_, _||_, true≢false}
+use mathlib.Core.List.{List, [], _∷_, _++_}
 use lib.Dec.{eqb}
 use lib.ListN.{getD}
 use borrow.Author.Tests.{eqb-true}
+use Rattle.finite.specs.Tests.{some}
 use Rattle.finite.specs.Lists.{table}
-use Rattle.finite.proofs.Lists.{table-get}
+use Rattle.finite.proofs.Tests.{or-false}
+use Rattle.finite.proofs.Lists.{table-get, table-snoc}
 use Rattle.bits.specs.Bit.{bit}
-use Rattle.model.specs.Limits.{mostEvents}
-use Rattle.model.specs.Case.{Event, noEvent, bare, load, store, sync, mostKind}
-use Rattle.model.specs.Rules.{kind, thread, address, value, initial, isLoad, isStore, isBarrier, of, before}
+use Rattle.model.specs.Limits.{second, mostEvents}
+use Rattle.model.specs.Case.{Event, noEvent, bare, load, store, sync, lwsync, mostKind}
+use Rattle.model.specs.Rules.{among, kind, thread, address, value, initial, isLoad, isStore, isSync, isBarrier, of, depends, before}
 use Rattle.case.proofs.Masks.{bit-left}
 use Rattle.case.specs.declared.Case.{Case as Held}
-use Rattle.case.specs.Held.{eventOf, eventsOf, caseOf}
-use Rattle.rows.specs.Sets.{orderIn}
+use Rattle.case.specs.Held.{eventOf, eventsOf, linkCount, link, linksOf, caseOf}
+use Rattle.rows.specs.Sets.{orderIn, dependsIn}
 
 either-way : (f : Event → ℕ) (b : Bool) (x y : Event) → f x ≡ f y → f (cond b x y) ≡ f y
 either-way f true x y h = h
@@ -35,6 +38,23 @@ module _ (k t a v : ℕ) where
   event-full : bare k ≡ false → eventOf k t a v ≡ record { kind = k; thread = t; address = a; value = v }
   unfolding eventOf
   event-full h = ap (λ b. cond b (record { kind = k; thread = t; address = 0; value = 0 }) (record { kind = k; thread = t; address = a; value = v })) h
+
+-- some entry of a table passes
+module _ {A : Type 0} (f : A → Bool) where
+  among-snoc : (xs : List A) (a : A) → among f (xs ++ (a ∷ [])) ≡ (among f xs || f a)
+  unfolding among
+  among-snoc [] a = or-false (f a)
+  among-snoc (x ∷ xs) a = ap (λ t. f x || t) (among-snoc xs a) ∙ turn (f x)
+    where
+      turn : (b : Bool) → (b || (among f xs || f a)) ≡ ((b || among f xs) || f a)
+      turn true = refl
+      turn false = refl
+
+  pub among-table : (n : ℕ) (g : ℕ → A) → among f (table 0 n g) ≡ some n (λ i. f (g i))
+  unfolding among some table
+  among-table zero g = refl
+  among-table (suc n) g =
+      ap (among f) (table-snoc 0 n g) ∙ among-snoc (table 0 n g) (g (0 + n)) ∙ ap₂ (λ s t. s || t) (among-table n g) (ap (λ (i : ℕ). f (g i)) (zero-add n))
 
 module _ (c : Held) where
   pub event-in : (e : ℕ) → e < c .events → getD (caseOf c .events) e noEvent ≡ eventOf (getD (c .kind) e 0) (getD (c .thread) e 0) (getD (c .address) e 0) (getD (c .value) e 0)
@@ -81,26 +101,49 @@ module _ (c : Held) where
   unfolding isStore
   store-in e l = ap (λ (x : ℕ). eqb x store) (kind-in e l)
 
-  pub barrier-in : (e : ℕ) → e < c .events → isBarrier (caseOf c) e ≡ eqb (getD (c .kind) e 0) sync
+  pub sync-in : (e : ℕ) → e < c .events → isSync (caseOf c) e ≡ eqb (getD (c .kind) e 0) sync
+  unfolding isSync
+  sync-in e l = ap (λ (x : ℕ). eqb x sync) (kind-in e l)
+
+  pub barrier-in : (e : ℕ) → e < c .events → isBarrier (caseOf c) e ≡ bare (getD (c .kind) e 0)
   unfolding isBarrier
-  barrier-in e l = ap (λ (x : ℕ). eqb x sync) (kind-in e l)
+  barrier-in e l = ap (λ (x : ℕ). bare x) (kind-in e l)
 
   pub of-in : (p e : ℕ) → e < c .events → of (caseOf c) p e ≡ eqb (getD (c .thread) e 0) p
   unfolding of
   of-in p e l = ap (λ (x : ℕ). eqb x p) (thread-in e l)
 
+  -- by dependency
+  pub depends-in : (a b : ℕ) → depends (caseOf c) a b ≡ dependsIn (c .from) (c .to) (linkCount (c .edition) (c .dependencies)) a b
+  unfolding depends caseOf linksOf
+  depends-in a b =
+      among-table (λ d. eqb (d .from) a && eqb (d .to) b) (linkCount (c .edition) (c .dependencies)) (λ j. link (getD (c .class) j 0) (getD (c .from) j 0) (getD (c .to) j 0))
+
 -- a kind that is none of the bare ones
-pub full-kind : (x : ℕ) → x ≤ mostKind → (eqb x load || eqb x store) ≡ not (bare x)
-full-kind zero h = refl
-full-kind (suc zero) h = refl
-full-kind (suc (suc zero)) h = refl
-full-kind (suc (suc (suc x))) h = absurd (omega arith)
+pub full-kind : (edition x : ℕ) → x ≤ mostKind edition → (eqb x load || eqb x store) ≡ not (bare x)
+unfolding mostKind
+full-kind edition x h = by x (any (second edition) h)
+  where
+    any : (b : Bool) → x ≤ cond b lwsync sync → x ≤ lwsync
+    any true l = l
+    any false l = omega arith
+
+    by : (x : ℕ) → x ≤ lwsync → (eqb x load || eqb x store) ≡ not (bare x)
+    by zero l = refl
+    by (suc zero) l = refl
+    by (suc (suc zero)) l = refl
+    by (suc (suc (suc zero))) l = refl
+    by (suc (suc (suc (suc x)))) l = absurd (omega arith)
 
 pub load-full : (x : ℕ) → eqb x load ≡ true → bare x ≡ false
 load-full x h = ap bare (eqb-true x load h)
 
 pub store-full : (x : ℕ) → eqb x store ≡ true → bare x ≡ false
 store-full x h = ap bare (eqb-true x store h)
+
+pub twice-not : (b : Bool) → not (not b) ≡ b
+twice-not true = refl
+twice-not false = refl
 
 pub not-not : (x y : Bool) → x ≡ not y → x ≡ true → y ≡ false
 not-not x true h t = absurd (true≢false (sym t ∙ h))

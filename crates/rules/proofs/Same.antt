@@ -1,7 +1,7 @@
 -- The rules' tests by a struct's rows and sets are the rules of the case that it means.
 -- Assumes nothing.
-use Prim.Native.Nat.{ℕ, _+_, _*_, _<_}
-use native.Mathlib.Nat.{lt-of-lt-of-le}
+use Prim.Native.Nat.{ℕ, _+_, _*_, _≤_, _<_}
+use native.Mathlib.Nat.{le-trans, lt-of-lt-of-le}
 use native.Mathlib.Omega.{arith}
 use mathlib.Core.Path.{_≡_, refl, sym, ap, ap₂, _∙_, subst}
 use mathlib.Core.Bool.{Bool, true, false, not, _&&_, _||_}
@@ -15,20 +15,20 @@ use Rattle.finite.proofs.Tests.{and-l, count-same, all-same, some-same, eqb-sym
 use Rattle.finite.proofs.Lists.{table-get}
 use Rattle.bits.specs.Bit.{bit}
 use Rattle.bits.proofs.Bits.{bit-or}
-use Rattle.model.specs.Limits.{mostThreads, mostAddresses, mostEvents}
+use Rattle.model.specs.Limits.{mostThreads, mostAddresses, mostEvents, mostDependencies}
 use Rattle.model.specs.Case.{bare, load, store, sync}
 use Rattle.model.specs.Record.{storeTo}
-use Rattle.model.specs.Rules.{Model, PPCw, PPCs, first, kind, thread, address, value, initial, isLoad, isStore, isBarrier, of, oneAddress, storeFor, before, everywhere, written, paired, seen, readsFrom, judged, orElse, rule11, rule12, rule13, rule14, rule15, rule16, rule17, rule18, verdict}
+use Rattle.model.specs.Rules.{Model, PPCw, PPCs, first, kind, thread, address, value, initial, isLoad, isStore, isBarrier, of, oneAddress, depends, applicable, storeFor, before, everywhere, written, paired, seen, readsFrom, judged, orElse, rule11, rule12, rule13, rule14, rule15, rule16, rule17, rule18, verdict}
 use Rattle.case.specs.declared.Case.{Case as Held}
-use Rattle.case.specs.Held.{caseOf}
+use Rattle.case.specs.Held.{linkCount, caseOf}
 use Rattle.case.specs.Sound.{Sound}
-use Rattle.rows.specs.Sets.{Set, Sets, orderIn, setIn, storeIn}
+use Rattle.rows.specs.Sets.{Set, Sets, orderIn, setIn, storeIn, lightIn, applicableIn, dependsIn}
 use Rattle.rows.specs.May.{pairs, mustRead, may11, may12, may13, may14, may15, may16, may17, may18}
 use Rattle.orders.specs.Parts.{writesIn, writtenIn}
 use Rattle.values.specs.Parts.{equalIn, threadIn}
 use Rattle.rules.specs.declared.EventSets.{EventSets}
-use Rattle.rules.specs.Verdict.{Agrees, Seen, Judged, modelOf, seenIn, judgedIn, freshIn, orderVerdict, valueVerdict, barrierVerdict}
-use Rattle.rules.proofs.Means.{kind-in, thread-in, address-in, value-in, initial-in, before-in, load-in, store-in, barrier-in, of-in, load-full, store-full, full-kind, not-not}
+use Rattle.rules.specs.Verdict.{Agrees, Seen, Judged, modelOf, sharedIn, seenIn, judgedIn, freshIn, orderVerdict, valueVerdict, barrierVerdict}
+use Rattle.rules.proofs.Means.{thread-in, address-in, value-in, initial-in, before-in, load-in, store-in, sync-in, barrier-in, of-in, depends-in, load-full, store-full, full-kind, twice-not, not-not}
 
 -- under a test
 under : (x x′ : Bool) {y y′ : Bool} → x ≡ x′ → (x′ ≡ true → y ≡ y′) → (x ⇒ y) ≡ (x′ ⇒ y′)
@@ -60,18 +60,19 @@ module _ (c : Held) (g : EventSets) (sound : Sound c) (agree : Agrees (caseOf c)
       (all-same (c .events) _ _ (λ b lb. ap₂ (λ x y. (x && not (eqb a b)) ⇒ y) (own p lp b lb)
       (ap₂ (λ x y. x || y) (o p lp a la b lb) (o p lp b lb a la))))))
 
-  pub same13 : may13 (c .threads) (c .events) (setIn (g .own)) (bit (g .syncs)) (setIn (g .partners)) (orderIn (c .rows)) ≡ rule13 (caseOf c)
+  pub same13 : may13 (c .threads) (c .events) (setIn (g .own)) (bit (g .barriers)) (setIn (g .partners)) (setIn (g .dependents)) (orderIn (c .rows)) ≡ rule13 (caseOf c)
   unfolding may13 rule13 caseOf
   same13 =
       let o = before-in c in
       let own = agree .own in
-      let sync′ = agree .barrier in
+      let barrier = agree .barrier in
       all-same (c .threads) _ _ (λ p lp. all-same (c .events) _ _ (λ b lb.
       ap₂ (λ x y. x ⇒ y) (own p lp b lb)
       (all-same b _ _ (λ a lab.
       let la : a < c .events = omega arith in
       ap₂ (λ x y. x ⇒ y)
-      (ap₂ (λ x y. x && y) (own p lp a la) (ap₂ (λ x y. x || y) (ap₂ (λ x y. x || y) (sync′ a la) (sync′ b lb)) (agree .partner a la b lb)))
+      (ap₂ (λ x y. x && y) (own p lp a la)
+      (ap₂ (λ x y. x || y) (ap₂ (λ x y. x || y) (ap₂ (λ x y. x || y) (barrier a la) (barrier b lb)) (agree .partner a la b lb)) (agree .dependent a la b lb)))
       (o p lp a la b lb)))))
 
   pub store-for : (l : ℕ) → l < c .events → (s : ℕ) → s < c .events → storeIn (g .stores) (g .partners) l s ≡ storeFor (caseOf c) l s
@@ -86,8 +87,7 @@ module _ (c : Held) (g : EventSets) (sound : Sound c) (agree : Agrees (caseOf c)
   load-kind a l h = load-full (getD (c .kind) a 0) (sym (load-in c a l) ∙ h)
 
   no-barrier : (a : ℕ) → a < c .events → bare (getD (c .kind) a 0) ≡ false → isBarrier (caseOf c) a ≡ false
-  unfolding isBarrier
-  no-barrier a l h = ap (λ (x : ℕ). eqb x sync) (kind-in c a l) ∙ h
+  no-barrier a l h = barrier-in c a l ∙ h
 
   -- the stores to the address of store a
   stores-to : (a : ℕ) → a < c .events → isStore (caseOf c) a ≡ true → (e : ℕ) → e < c .events
@@ -219,14 +219,19 @@ module _ (c : Held) (g : EventSets) (sound : Sound c) (agree : Agrees (caseOf c)
 
   -- ---- 17 and 18
 
-  pub same17 : may17 (c .threads) (c .events) (setIn (g .own)) (bit (g .syncs)) (orderIn (c .rows)) (orderIn (c .rows)) ≡ rule17 (caseOf c)
+  applicable-in : (f : ℕ) → f < c .events → (e : ℕ) → e < c .events → (h : ℕ) → h < c .events
+      → applicableIn (g .syncs) (g .light) f e h ≡ applicable (caseOf c) f e h
+  unfolding applicable caseOf
+  applicable-in f lf e le h lh = ap₂ (λ x y. x || y) (agree .sync f lf) (agree .light e le h lh)
+
+  pub same17 : may17 (c .threads) (c .events) (setIn (g .own)) (bit (g .barriers)) (applicableIn (g .syncs) (g .light)) (orderIn (c .rows)) (orderIn (c .rows)) ≡ rule17 (caseOf c)
   unfolding may17 rule17 everywhere caseOf
   same17 =
       let o = before-in c in
       all-same (c .threads) _ _ (λ p lp. all-same (c .events) _ _ (λ f lf.
       ap₂ (λ x y. x ⇒ y) (ap₂ (λ x y. x && y) (agree .barrier f lf) (agree .own p lp f lf))
       (all-same (c .events) _ _ (λ e le. ap₂ (λ x y. x ⇒ y) (o p lp e le f lf)
-      (all-same (c .events) _ _ (λ h lh. ap₂ (λ x y. x ⇒ y) (ap₂ (λ x y. x && y) (agree .own p lp h lh) (o p lp f lf h lh))
+      (all-same (c .events) _ _ (λ h lh. ap₂ (λ x y. x ⇒ y) (ap₂ (λ x y. x && y) (ap₂ (λ x y. x && y) (agree .own p lp h lh) (o p lp f lf h lh)) (applicable-in f lf e le h lh))
       (all-same (c .threads) _ _ (λ q lq. o q lq e le h lh))))))))
 
   -- the order of an event's thread
@@ -251,7 +256,7 @@ module _ (c : Held) (g : EventSets) (sound : Sound c) (agree : Agrees (caseOf c)
   pub same18 : {read : List ℕ}
       → Sets (c .events) read (λ l s. ltb s (c .events)
       && mustRead (c .events) (bit (g .loads)) (storeIn (g .stores) (g .partners)) (threadIn (c .thread)) (orderIn (c .rows)) (orderIn (c .rows)) l s)
-      → may18 (c .threads) (c .events) (setIn (g .own)) (bit (g .syncs)) (bit (g .stores)) (setIn read) (threadIn (c .thread)) (orderIn (c .rows)) (orderIn (c .rows)) ≡ rule18 (caseOf c)
+      → may18 (c .threads) (c .events) (setIn (g .own)) (bit (g .barriers)) (applicableIn (g .syncs) (g .light)) (bit (g .stores)) (setIn read) (threadIn (c .thread)) (orderIn (c .rows)) (orderIn (c .rows)) ≡ rule18 (caseOf c)
   unfolding may18 rule18 everywhere caseOf
   same18 {read} r =
       let o = before-in c in
@@ -263,7 +268,7 @@ module _ (c : Held) (g : EventSets) (sound : Sound c) (agree : Agrees (caseOf c)
       ap₂ (λ x y. x ⇒ y)
       (r .has l ll s ∙ ap (λ t. t && mustRead (c .events) (bit (g .loads)) (storeIn (g .stores) (g .partners)) (threadIn (c .thread)) (orderIn (c .rows)) (orderIn (c .rows)) l s) (lt-ltb s (c .events) ls) ∙ must-read-in l ll s ls)
       (all-same (c .events) _ _ (λ h lh. ap₂ (λ x y. x ⇒ y) (at-thread l ll l ll h lh)
-      (all-same (c .events) _ _ (λ e le. ap₂ (λ x y. x ⇒ y) (o p lp e le f lf)
+      (all-same (c .events) _ _ (λ e le. ap₂ (λ x y. x ⇒ y) (ap₂ (λ x y. x && y) (o p lp e le f lf) (applicable-in f lf e le h lh))
       (all-same (c .threads) _ _ (λ q lq. o q lq e le h lh))))))))))))
 
 -- ---- the verdict, rule by rule
@@ -326,6 +331,32 @@ module _ (c : Held) (w : Model) where
 
 -- ---- the sets of a case's events
 
+-- what a set's events share, by address
+pub shares : (k set : ℕ) (addresses : List ℕ) {those r : List ℕ} → ((e : ℕ) → e < k → bit set e ≡ true → getD addresses e 0 < mostAddresses)
+    → Sets mostAddresses those (λ x e. bit set e && (ltb e k && eqb (getD addresses e 0) x))
+    → Sets k r (λ e i. bit set e && setIn those (getD addresses e 0) i) → Sets k r (sharedIn k set addresses)
+shares k set addresses {those} within t r = record { has = λ a la b. r .has a la b ∙ by a la b (bit set a) refl }
+  where
+    by : (a : ℕ) → a < k → (b : ℕ) (x : Bool) → bit set a ≡ x → (x && setIn those (getD addresses a 0) b) ≡ (x && (bit set b && (ltb b k && eqb (getD addresses b 0) (getD addresses a 0))))
+    by a la b true h = t .has (getD addresses a 0) (within a la h) b
+    by a la b false h = refl
+
+-- by event, what depends on it
+module _ (c : Held) where
+  pub depends-within : Sound c → {i : ℕ} → i ≤ linkCount (c .edition) (c .dependencies)
+      → (i ≤ mostDependencies) × (((j : ℕ) → j < i → getD (c .from) j 0 < mostEvents) × ((j : ℕ) → j < i → getD (c .to) j 0 < mostEvents))
+  depends-within sound h = (
+    le-trans h (sound .links-most),
+    (
+      λ j l. lt-of-lt-of-le (sound .from j (lt-of-lt-of-le l h)) (sound .events-most),
+      λ j l. lt-of-lt-of-le (sound .to j (lt-of-lt-of-le l h)) (sound .events-most),
+    ),
+  )
+
+  pub depends-by : {i : ℕ} {r : List ℕ} → i ≡ linkCount (c .edition) (c .dependencies) → Sets mostEvents r (dependsIn (c .from) (c .to) i)
+      → Sets mostEvents r (depends (caseOf c))
+  depends-by h d = record { has = λ a la b. d .has a la b ∙ ap (λ (i : ℕ). dependsIn (c .from) (c .to) i a b) h ∙ sym (depends-in c a b) }
+
 module _ (c : Held) (sound : Sound c) {l s : ℕ}
     (loads : Set l (λ e. ltb e (c .events) && eqb (getD (c .kind) e 0) load))
     (stores : Set s (λ e. ltb e (c .events) && eqb (getD (c .kind) e 0) store)) where
@@ -337,7 +368,7 @@ module _ (c : Held) (sound : Sound c) {l s : ℕ}
   access-in e le =
       bit-or l s e
       ∙ ap₂ (λ x y. x || y) (loads .has e ∙ here e le (eqb (getD (c .kind) e 0) load)) (stores .has e ∙ here e le (eqb (getD (c .kind) e 0) store))
-      ∙ full-kind (getD (c .kind) e 0) (sound .kind e le)
+      ∙ full-kind (c .edition) (getD (c .kind) e 0) (sound .kind e le)
 
   access-full : (e : ℕ) → e < c .events → bit (bitOr l s) e ≡ true → bare (getD (c .kind) e 0) ≡ false
   access-full e le h = not-not (bit (bitOr l s) e) (bare (getD (c .kind) e 0)) (access-in e le) h
@@ -345,38 +376,58 @@ module _ (c : Held) (sound : Sound c) {l s : ℕ}
   pub access-address : (e : ℕ) → e < c .events → bit (bitOr l s) e ≡ true → getD (c .address) e 0 < mostAddresses
   access-address e le h = lt-of-lt-of-le (sound .address e le (access-full e le h)) (sound .addresses-most)
 
-  pub agrees : {f every : ℕ} {mine partners sharing : List ℕ} → Set f (λ e. ltb e (c .events) && eqb (getD (c .kind) e 0) sync)
+  -- events of the set that use one address
+  one-address : (a : ℕ) → a < c .events → (b : ℕ) → b < c .events → sharedIn (c .events) (bitOr l s) (c .address) a b ≡ oneAddress (caseOf c) a b
+  unfolding oneAddress
+  one-address a la b lb =
+      by (bit (bitOr l s) a) (bit (bitOr l s) b) refl refl
+      ∙ sym (ap₂ (λ x y. not x && not y && eqb (address (caseOf c) a) (address (caseOf c) b)) (barrier-in c a la) (barrier-in c b lb))
+    where
+      same : Bool
+      same = eqb (address (caseOf c) a) (address (caseOf c) b)
+
+      by : (x y : Bool) → bit (bitOr l s) a ≡ x → bit (bitOr l s) b ≡ y
+          → (x && (y && (ltb b (c .events) && eqb (getD (c .address) b 0) (getD (c .address) a 0)))) ≡ (not (bare (getD (c .kind) a 0)) && not (bare (getD (c .kind) b 0)) && same)
+      by true true x y =
+          here b lb (eqb (getD (c .address) b 0) (getD (c .address) a 0))
+          ∙ eqb-sym (getD (c .address) b 0) (getD (c .address) a 0)
+          ∙ ap₂ (λ (i j : ℕ). eqb i j) (sym (address-in c a la (access-full a la x))) (sym (address-in c b lb (access-full b lb y)))
+          ∙ ap₂ (λ u v. u && v && same) (sym x ∙ access-in a la) (sym y ∙ access-in b lb)
+      by true false x y = ap₂ (λ u v. u && v && same) (sym x ∙ access-in a la) (sym y ∙ access-in b lb)
+      by false z x y = ap (λ u. u && not (bare (getD (c .kind) b 0)) && same) (sym x ∙ access-in a la)
+
+  pub agrees : {f every b : ℕ} {mine partners dependents light : List ℕ} → Set f (λ e. ltb e (c .events) && eqb (getD (c .kind) e 0) sync)
       → Set every (λ e. ltb e (c .events))
       → Sets mostThreads mine (λ x e. bit every e && (ltb e (c .events) && eqb (getD (c .thread) e 0) x))
-      → Sets mostThreads sharing (λ x e. bit (bitOr l s) e && (ltb e (c .events) && eqb (getD (c .address) e 0) x))
-      → Sets (c .events) partners (λ e i. bit (bitOr l s) e && setIn sharing (getD (c .address) e 0) i) → Agrees (caseOf c) (record { own = mine; loads = l; stores = s; syncs = f; partners = partners })
-  unfolding caseOf oneAddress isBarrier
-  agrees {sharing} syncs all-below own t p = record {
+      → Sets (c .events) partners (sharedIn (c .events) (bitOr l s) (c .address))
+      → Set b (λ e. bit every e && not (bit (bitOr l s) e))
+      → Sets (c .events) light (λ e g. ltb g (c .events) && lightIn b s l e g)
+      → Sets mostEvents dependents (depends (caseOf c))
+      → Agrees (caseOf c) (record { own = mine; loads = l; stores = s; barriers = b; syncs = f; partners = partners; dependents = dependents; light = light })
+  unfolding caseOf
+  agrees {b} syncs all-below own p barriers w d = record {
     own = λ x lx e le.
         own .has x (lt-of-lt-of-le lx (sound .threads-most)) e
         ∙ ap (λ t. t && (ltb e (c .events) && eqb (getD (c .thread) e 0) x)) (all-below .has e ∙ lt-ltb e (c .events) le)
         ∙ here e le (eqb (getD (c .thread) e 0) x) ∙ sym (of-in c x e le);
-    load = λ e le. loads .has e ∙ here e le (eqb (getD (c .kind) e 0) load) ∙ sym (load-in c e le);
-    store = λ e le. stores .has e ∙ here e le (eqb (getD (c .kind) e 0) store) ∙ sym (store-in c e le);
-    barrier = λ e le. syncs .has e ∙ here e le (eqb (getD (c .kind) e 0) sync) ∙ sym (barrier-in c e le);
-    partner = λ a la b lb.
-        p .has a la b ∙ both a la b lb (bit (bitOr l s) a) (bit (bitOr l s) b) refl refl
-        ∙ sym (ap₂ (λ x y. not x && not y && eqb (address (caseOf c) a) (address (caseOf c) b)) (barrier-in c a la) (barrier-in c b lb));
+    load = is-load;
+    store = is-store;
+    barrier = is-barrier;
+    sync = λ e le. syncs .has e ∙ here e le (eqb (getD (c .kind) e 0) sync) ∙ sym (sync-in c e le);
+    partner = λ x lx y ly. p .has x lx y ∙ one-address x lx y ly;
+    dependent = λ x lx y ly. d .has x (lt-of-lt-of-le lx (sound .events-most)) y;
+    light = λ x lx y ly.
+        w .has x lx y ∙ here y ly (lightIn b s l x y)
+        ∙ ap₂ (λ u v. u && not v) (ap₂ (λ u v. not u && not v) (is-barrier x lx) (is-barrier y ly)) (ap₂ (λ u v. u && v) (is-store x lx) (is-load y ly));
   }
     where
-      both : (a : ℕ) → a < c .events → (b : ℕ) → b < c .events → (x y : Bool) → bit (bitOr l s) a ≡ x → bit (bitOr l s) b ≡ y
-          → (bit (bitOr l s) a && setIn sharing (getD (c .address) a 0) b)
-          ≡ (not (bare (getD (c .kind) a 0)) && not (bare (getD (c .kind) b 0)) && eqb (address (caseOf c) a) (address (caseOf c) b))
-      both a la b lb true true x y =
-          ap₂ (λ u v. u && v) x (t .has (getD (c .address) a 0) (access-address a la x) b
-          ∙ ap (λ u. u && (ltb b (c .events) && eqb (getD (c .address) b 0) (getD (c .address) a 0))) y ∙ here b lb (eqb (getD (c .address) b 0) (getD (c .address) a 0)))
-          ∙ eqb-sym (getD (c .address) b 0) (getD (c .address) a 0)
-          ∙ ap₂ (λ (i j : ℕ). eqb i j) (sym (address-in c a la (access-full a la x))) (sym (address-in c b lb (access-full b lb y)))
-          ∙ ap₂ (λ u v. u && v && eqb (address (caseOf c) a) (address (caseOf c) b)) (sym x ∙ access-in a la) (sym y ∙ access-in b lb)
-      both a la b lb true false x y =
-          ap₂ (λ u v. u && v) x (t .has (getD (c .address) a 0) (access-address a la x) b
-          ∙ ap (λ u. u && (ltb b (c .events) && eqb (getD (c .address) b 0) (getD (c .address) a 0))) y)
-          ∙ ap₂ (λ u v. u && v && eqb (address (caseOf c) a) (address (caseOf c) b)) (sym x ∙ access-in a la) (sym y ∙ access-in b lb)
-      both a la b lb false y x e =
-          ap (λ u. u && setIn sharing (getD (c .address) a 0) b) x
-          ∙ ap (λ u. u && not (bare (getD (c .kind) b 0)) && eqb (address (caseOf c) a) (address (caseOf c) b)) (sym x ∙ access-in a la)
+      is-load : (e : ℕ) → e < c .events → bit l e ≡ isLoad (caseOf c) e
+      is-load e le = loads .has e ∙ here e le (eqb (getD (c .kind) e 0) load) ∙ sym (load-in c e le)
+
+      is-store : (e : ℕ) → e < c .events → bit s e ≡ isStore (caseOf c) e
+      is-store e le = stores .has e ∙ here e le (eqb (getD (c .kind) e 0) store) ∙ sym (store-in c e le)
+
+      is-barrier : (e : ℕ) → e < c .events → bit b e ≡ isBarrier (caseOf c) e
+      is-barrier e le =
+          barriers .has e ∙ ap₂ (λ x y. x && not y) (all-below .has e ∙ lt-ltb e (c .events) le) (access-in e le)
+          ∙ twice-not (bare (getD (c .kind) e 0)) ∙ sym (barrier-in c e le)

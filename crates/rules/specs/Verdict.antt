@@ -2,13 +2,13 @@
 -- Assumes nothing.
 use Prim.Native.Nat.{ℕ, _<_}
 use mathlib.Core.Path.{_≡_}
-use mathlib.Core.Bool.{Bool, true, false, _&&_, _||_}
+use mathlib.Core.Bool.{Bool, true, false, not, _&&_, _||_}
 use mathlib.Core.List.{List}
 use lib.Dec.{eqb, ltb}
 use lib.ListN.{getD}
 use Rattle.bits.specs.Bit.{bit}
 use Rattle.model.specs.Case.{Case}
-use Rattle.model.specs.Rules.{Model, PPCw, PPCs, of, isLoad, isStore, isBarrier, oneAddress, seen, judged, orElse, rule11, rule12, rule13, rule14, rule15, rule16, rule17, rule18}
+use Rattle.model.specs.Rules.{Model, PPCw, PPCs, of, isLoad, isStore, isSync, isBarrier, oneAddress, depends, seen, judged, orElse, rule11, rule12, rule13, rule14, rule15, rule16, rule17, rule18}
 use Rattle.rows.specs.Sets.{orderIn, setIn}
 use Rattle.rows.specs.May.{pairs}
 use Rattle.rules.specs.declared.EventSets.{EventSets}
@@ -23,8 +23,11 @@ pub record Agrees (c : Case) (g : EventSets) : Type 0 where
   pub own : (p : ℕ) → p < c .n → (e : ℕ) → e < c .k → setIn (g .own) p e ≡ of c p e
   pub load : (e : ℕ) → e < c .k → bit (g .loads) e ≡ isLoad c e
   pub store : (e : ℕ) → e < c .k → bit (g .stores) e ≡ isStore c e
-  pub barrier : (e : ℕ) → e < c .k → bit (g .syncs) e ≡ isBarrier c e
+  pub barrier : (e : ℕ) → e < c .k → bit (g .barriers) e ≡ isBarrier c e
+  pub sync : (e : ℕ) → e < c .k → bit (g .syncs) e ≡ isSync c e
   pub partner : (a : ℕ) → a < c .k → (b : ℕ) → b < c .k → setIn (g .partners) a b ≡ oneAddress c a b
+  pub dependent : (a : ℕ) → a < c .k → (b : ℕ) → b < c .k → setIn (g .dependents) a b ≡ depends c a b
+  pub light : (a : ℕ) → a < c .k → (b : ℕ) → b < c .k → setIn (g .light) a b ≡ (not (isBarrier c a) && not (isBarrier c b) && not (isStore c a && isLoad c b))
 
 -- by thread, the sets are V(p)
 pub record Seen (c : Case) (sets : List ℕ) : Type 0 where
@@ -33,6 +36,10 @@ pub record Seen (c : Case) (sets : List ℕ) : Type 0 where
 -- by thread, the sets are the loads that rules 15 and 16 speak of
 pub record Judged (c : Case) (w : Model) (sets : List ℕ) : Type 0 where
   pub is : (p : ℕ) → p < c .n → (l : ℕ) → l < c .k → setIn sets p l ≡ judged c w p l
+
+-- by event of the set, those of the set among k events that use its address
+abbrev pub sharedIn : (k set : ℕ) (addresses : List ℕ) → ℕ → ℕ → Bool
+sharedIn k set addresses a b = bit set a && (bit set b && (ltb b k && eqb (getD addresses b 0) (getD addresses a 0)))
 
 -- by thread, of k events: what stands in some pair of its order, and its own
 abbrev pub seenIn : (k : ℕ) (known own : List ℕ) → ℕ → ℕ → Bool

@@ -7,21 +7,44 @@ ghost use lib.ListN.{getD};
 ghost use Rattle.finite.specs.Tests.{count};
 ghost use Rattle.bits.specs.Bit.{bit};
 ghost use Rattle.model.specs.Limits.{mostThreads, mostAddresses, mostEvents};
-ghost use Rattle.model.specs.Rules.{Model, rule11, rule12, rule13, rule14, rule15, rule16, rule17, rule18, verdict as verdictOf, finals as finalsOf};
+ghost use Rattle.model.specs.Rules.{Model, depends, rule11, rule12, rule13, rule14, rule15, rule16, rule17, rule18, verdict as verdictOf, finals as finalsOf};
 ghost use Rattle.case.specs.Held.{caseOf};
 ghost use Rattle.case.specs.Sound.{Sound};
 ghost use Rattle.rows.specs.Sets.{Set, Sets};
 ghost use Rattle.rules.specs.Finals.{storedIn, valueIn, lastIn, finalIn};
-ghost use Rattle.rules.specs.Verdict.{Agrees, Seen, Judged, modelOf, seenIn, chosenIn, judgedIn, freshIn, orderVerdict, valueVerdict, barrierVerdict};
+ghost use Rattle.rules.specs.Verdict.{Agrees, Seen, Judged, modelOf, sharedIn, seenIn, chosenIn, judgedIn, freshIn, orderVerdict, valueVerdict, barrierVerdict};
 use case::Case;
 
-// The sets of a case's events: those of each thread; loads, stores and syncs; and by event those that use its address.
+// The sets of a case's events: those of each thread; loads, stores, barriers and, of these, syncs; and by event those that use
+// its address, those that depend on it, and those that an lwsync orders after it.
 pub struct EventSets {
     pub own: [u64; Case::MOST_THREADS],
     pub loads: u64,
     pub stores: u64,
+    pub barriers: u64,
     pub syncs: u64,
     pub partners: [u64; Case::MOST_EVENTS],
+    pub dependents: [u64; Case::MOST_EVENTS],
+    pub light: [u64; Case::MOST_EVENTS],
+}
+
+// By event of the set, the events of the set that use its address.
+fn sharing(addresses: &[u8; Case::MOST_EVENTS], k: usize, set: u64) -> [u64; Case::MOST_EVENTS]
+    requires { ⌜ k ≤ mostEvents ⌝ }
+    requires { ⌜ ((e : ℕ) → e < k → bit set e ≡ true → getD (now addresses) e 0 < mostAddresses) ⌝ }
+    ensures { λ r. ⌜ Sets k r (sharedIn k set (now (addresses .entry))) ⌝ }
+{
+    let those = rows::by_label(addresses, k, set);
+    rows::by_event(&those, addresses, k, set)
+}
+
+// By event, the events that depend on it.
+fn dependents(c: Case) -> [u64; Case::MOST_EVENTS]
+    requires { ⌜ Sound c ⌝ }
+    ensures { λ r. ⌜ Sets mostEvents r (depends (caseOf c)) ⌝ }
+{
+    let count = case::link_count(c.edition, c.dependencies);
+    rows::dependents(&c.from, &c.to, count)
 }
 
 pub fn gather(c: Case) -> EventSets
@@ -32,16 +55,21 @@ pub fn gather(c: Case) -> EventSets
     let loads = rows::labelled(&c.kind, k, Case::LOAD);
     let stores = rows::labelled(&c.kind, k, Case::STORE);
     let syncs = rows::labelled(&c.kind, k, Case::SYNC);
-    let own = rows::by_label(&c.thread, k, bits::below(k));
+    let every = bits::below(k);
+    let own = rows::by_label(&c.thread, k, every);
     let accesses = loads | stores;
-    let sharing = rows::by_label(&c.address, k, accesses);
-    let partners = rows::by_event(&sharing, &c.address, k, accesses);
+    let partners = sharing(&c.address, k, accesses);
+    let barriers = rows::minus(every, accesses);
+    let light = rows::light(barriers, stores, loads, k);
     EventSets {
         own,
         loads,
         stores,
+        barriers,
         syncs,
         partners,
+        dependents: dependents(c),
+        light,
     }
 }
 
@@ -166,7 +194,15 @@ fn obeys13(c: Case, g: EventSets) -> bool
     requires { ⌜ Agrees (caseOf c) g ⌝ }
     ensures { λ r. ⌜ r ≡ rule13 (caseOf c) ⌝ }
 {
-    orders::rule13(&g.own, g.syncs, &g.partners, &c.rows, c.threads, c.events)
+    orders::rule13(
+        &g.own,
+        g.barriers,
+        &g.partners,
+        &g.dependents,
+        &c.rows,
+        c.threads,
+        c.events,
+    )
 }
 
 // Rule 14 of the case.
@@ -263,7 +299,16 @@ fn obeys17(c: Case, g: EventSets) -> bool
     requires { ⌜ Agrees (caseOf c) g ⌝ }
     ensures { λ r. ⌜ r ≡ rule17 (caseOf c) ⌝ }
 {
-    values::rule17(&g.own, g.syncs, &c.rows, &c.rows, c.threads, c.events)
+    values::rule17(
+        &g.own,
+        g.barriers,
+        g.syncs,
+        &g.light,
+        &c.rows,
+        &c.rows,
+        c.threads,
+        c.events,
+    )
 }
 
 // Rule 18 of the case.
@@ -284,7 +329,9 @@ fn obeys18(c: Case, g: EventSets) -> bool
     );
     values::rule18(
         &g.own,
+        g.barriers,
         g.syncs,
+        &g.light,
         g.stores,
         &read,
         &c.thread,
@@ -327,12 +374,12 @@ pub fn verdict(c: Case, strong: bool) -> u8
     broken_barrier(c, g)
 }
 
-// The value of event e, 0 if it is a sync.
+// The value of event e, 0 if it is a barrier.
 fn value_at(kinds: &[u8; Case::MOST_EVENTS], values: &[u32; Case::MOST_EVENTS], e: usize) -> u32
     requires { ⌜ e < mostEvents ⌝ }
     ensures { λ r. ⌜ r ≡ valueIn (now (kinds .entry)) (now (values .entry)) e ⌝ }
 {
-    if kinds[e] == Case::SYNC { 0 } else { values[e] }
+    if case::bare(kinds[e]) { 0 } else { values[e] }
 }
 
 // The value of the last of i stores in the write order of address x, or else the initial value.

@@ -3,16 +3,19 @@
 use Prim.Native.Nat.{ℕ, _<_}
 use mathlib.Core.Path.{_≡_, refl, sym, ap, ap₂, _∙_}
 use mathlib.Core.Bool.{Bool, true, false, not, _&&_, _||_}
+use mathlib.Core.List.{List}
+use lib.Bits.{bitAnd}
+use lib.ListN.{getD}
 use lib.Dec.{eqb, ltb, T}
 use borrow.Author.Tests.{lt-ltb}
 use Rattle.finite.specs.Tests.{all, some, _⇒_}
-use Rattle.finite.proofs.Tests.{all-same, all-swap, imp-all, some-same, same-test, all-iff, and-iff, imp-iff}
+use Rattle.finite.proofs.Tests.{all-same, all-swap, and-true, imp-all, imp-and, some-same, same-test, all-iff, and-iff, imp-iff}
 use Rattle.bits.proofs.Bits.{bit-zero}
-use Rattle.rows.proofs.SetLaws.{but-own, set-same, union-inside, some-imp}
+use Rattle.rows.proofs.SetLaws.{but-own, set-same, set-as, share, as-set, union-inside, some-imp}
 use Rattle.bits.specs.Bit.{bit}
-use Rattle.rows.specs.Sets.{Set}
+use Rattle.rows.specs.Sets.{Set, setIn, applicableIn}
 use Rattle.rows.specs.May.{Relation, mustRead}
-use Rattle.values.specs.Parts.{explained, carried, mustReadOf}
+use Rattle.values.specs.Parts.{explained, carried, cumulative, mustReadOf, reached, carriedOn}
 
 -- ---- 15
 
@@ -79,21 +82,55 @@ by-sets k seen storeFor equal asked l {those} {between} s t =
 
 -- ---- 17 and 18
 
-pub carried-by : (k n : ℕ) (c d : ℕ → Bool) (asked : Relation) {first then : ℕ} → Set first (λ e. ltb e k && c e) → Set then d
-    → carried k n (bit first) (bit then) asked ≡ all k (λ e. c e ⇒ all n (λ q. all k (λ g. d g ⇒ asked q e g)))
-carried-by k n c d asked {first} {then} s t =
-    all-same k (λ e. bit first e ⇒ all n (λ q. all k (λ g. bit then g ⇒ asked q e g))) (λ e. c e ⇒ all n (λ q. all k (λ g. d g ⇒ asked q e g)))
-    (λ e le. ap₂ (λ u v. u ⇒ v) (s .has e ∙ ap (λ u. u && c e) (lt-ltb e k le))
-    (all-same n (λ q. all k (λ g. bit then g ⇒ asked q e g)) (λ q. all k (λ g. d g ⇒ asked q e g))
-    (λ q lq. all-same k (λ g. bit then g ⇒ asked q e g) (λ g. d g ⇒ asked q e g) (λ g lg. ap (λ u. u ⇒ asked q e g) (t .has g)))))
+-- what barrier f orders after e, of a sync and of another
+module _ (set syncs : ℕ) (light : List ℕ) (f e : ℕ) where
+  pub after-sync : bit syncs f ≡ true → Set set (λ g. bit set g && applicableIn syncs light f e g)
+  after-sync h = record { has = λ g. sym (ap (λ t. bit set g && (t || setIn light e g)) h ∙ and-true (bit set g)) }
 
-pub everywhere-last : (k n : ℕ) (c d : ℕ → Bool) (asked : Relation)
-    → all k (λ e. c e ⇒ all n (λ q. all k (λ g. d g ⇒ asked q e g))) ≡ all k (λ e. c e ⇒ all k (λ g. d g ⇒ all n (λ q. asked q e g)))
-everywhere-last k n c d asked =
-    all-same k (λ e. c e ⇒ all n (λ q. all k (λ g. d g ⇒ asked q e g))) (λ e. c e ⇒ all k (λ g. d g ⇒ all n (λ q. asked q e g)))
-    (λ e le. ap (λ u. c e ⇒ u)
-    (all-swap n k (λ q g. d g ⇒ asked q e g)
-    ∙ all-same k (λ g. all n (λ q. d g ⇒ asked q e g)) (λ g. d g ⇒ all n (λ q. asked q e g)) (λ g lg. sym (imp-all n (d g) (λ q. asked q e g)))))
+  pub after-light : bit syncs f ≡ false → Set (bitAnd set (getD light e 0)) (λ g. bit set g && applicableIn syncs light f e g)
+  after-light h =
+      set-same (share (as-set {x = set} refl) (as-set {x = getD light e 0} refl)) (λ g. ap (λ t. bit set g && (t || setIn light e g)) (sym h))
+
+-- what comes before a set comes before what it holds
+pub leads-set : (k n : ℕ) (asked : ℕ → ℕ → Bool) {x : ℕ} {d : ℕ → Bool} → Set x d
+    → all n (λ q. all k (λ g. bit x g ⇒ asked q g)) ≡ all n (λ q. all k (λ g. d g ⇒ asked q g))
+leads-set k n asked {x} {d} s =
+    all-same n (λ q. all k (λ g. bit x g ⇒ asked q g)) (λ q. all k (λ g. d g ⇒ asked q g))
+    (λ q lq. all-same k (λ g. bit x g ⇒ asked q g) (λ g. d g ⇒ asked q g) (λ g lg. ap (λ u. u ⇒ asked q g) (s .has g)))
+
+module _ (k n : ℕ) (c : ℕ → Bool) (applies : ℕ → ℕ → Bool) (asked : Relation) where
+  pub first-set : {first : ℕ} (d : ℕ → Bool) → Set first (λ e. ltb e k && c e) → carried k n (bit first) d applies asked ≡ carried k n c d applies asked
+  first-set {first} d s =
+      all-same k (λ e. bit first e ⇒ all n (λ q. all k (λ g. (d g && applies e g) ⇒ asked q e g))) (λ e. c e ⇒ all n (λ q. all k (λ g. (d g && applies e g) ⇒ asked q e g)))
+      (λ e le. ap (λ u. u ⇒ all n (λ q. all k (λ g. (d g && applies e g) ⇒ asked q e g))) (s .has e ∙ ap (λ u. u && c e) (lt-ltb e k le)))
+
+  pub then-set : {then : ℕ} {d : ℕ → Bool} → Set then d → carried k n c (bit then) applies asked ≡ carried k n c d applies asked
+  then-set {then} {d} s =
+      all-same k (λ e. c e ⇒ all n (λ q. all k (λ g. (bit then g && applies e g) ⇒ asked q e g))) (λ e. c e ⇒ all n (λ q. all k (λ g. (d g && applies e g) ⇒ asked q e g)))
+      (λ e le. ap (λ u. c e ⇒ u)
+      (all-same n (λ q. all k (λ g. (bit then g && applies e g) ⇒ asked q e g)) (λ q. all k (λ g. (d g && applies e g) ⇒ asked q e g))
+      (λ q lq. all-same k (λ g. (bit then g && applies e g) ⇒ asked q e g) (λ g. (d g && applies e g) ⇒ asked q e g) (λ g lg. ap (λ u. (u && applies e g) ⇒ asked q e g) (s .has g)))))
+
+  everywhere-last : (d : ℕ → Bool) → carried k n c d applies asked ≡ all k (λ e. c e ⇒ all k (λ g. (d g && applies e g) ⇒ all n (λ q. asked q e g)))
+  everywhere-last d =
+      all-same k (λ e. c e ⇒ all n (λ q. all k (λ g. (d g && applies e g) ⇒ asked q e g))) (λ e. c e ⇒ all k (λ g. (d g && applies e g) ⇒ all n (λ q. asked q e g)))
+      (λ e le. ap (λ u. c e ⇒ u)
+      (all-swap n k (λ q g. (d g && applies e g) ⇒ asked q e g)
+      ∙ all-same k (λ g. all n (λ q. (d g && applies e g) ⇒ asked q e g)) (λ g. (d g && applies e g) ⇒ all n (λ q. asked q e g)) (λ g lg. sym (imp-all n (d g && applies e g) (λ q. asked q e g)))))
+
+-- the thread's barriers
+pub fences-set : (barriers own : ℕ) {fences : ℕ} → fences ≡ bitAnd barriers own → Set fences (λ f. bit barriers f && bit own f)
+fences-set barriers own h = set-as h (share (as-set {x = barriers} refl) (as-set {x = own} refl))
+
+-- 17 at f, from the thread's barriers and what comes after f
+pub cumulative-at : (k n own barriers : ℕ) (applicable : ℕ → ℕ → ℕ → Bool) (known : ℕ → ℕ → Bool) (asked : Relation) (f : ℕ) {fences then : ℕ} {x : Bool}
+    → fences ≡ bitAnd barriers own → Set then (λ g. bit own g && known f g)
+    → x ≡ (bit fences f ⇒ carried k n (λ e. known e f) (bit then) (applicable f) asked)
+    → x ≡ cumulative k n (bit own) (bit barriers) applicable known asked f
+cumulative-at k n own barriers applicable known asked f hf t h =
+    h ∙ ap₂ (λ u v. u ⇒ v) (fences-set barriers own hf .has f)
+    (then-set k n (λ e. known e f) (applicable f) asked t
+    ∙ everywhere-last k n (λ e. known e f) (applicable f) asked (λ g. bit own g && known f g))
 
 -- ---- reads-from
 
@@ -146,41 +183,43 @@ module _ (k : ℕ) (isLoad : ℕ → Bool) (storeFor : ℕ → ℕ → Bool) (th
 
 -- ---- 18
 
-module _ (k n : ℕ) (c s : ℕ → Bool) (r d : ℕ → ℕ → Bool) (asked : Relation) where
+module _ (k n : ℕ) (c s : ℕ → Bool) (r d applies : ℕ → ℕ → Bool) (asked : Relation) where
   -- what is reached, load by load and store by store
-  spread : all k (λ e. c e ⇒ all n (λ q. all k (λ g. (some k λ l. (some k λ x. r l x && s x) && d l g) ⇒ asked q e g)))
-      ≡ all k (λ e. c e ⇒ all n (λ q. all k (λ l. all k (λ x. (r l x && s x) ⇒ all k (λ g. d l g ⇒ asked q e g)))))
+  spread : carried k n c (λ g. some k λ l. (some k λ x. r l x && s x) && d l g) applies asked
+      ≡ all k (λ e. c e ⇒ all n (λ q. all k (λ l. all k (λ x. (r l x && s x) ⇒ all k (λ g. d l g ⇒ (applies e g ⇒ asked q e g))))))
   spread =
-      all-same k (λ e. c e ⇒ all n (λ q. all k (λ g. (some k λ l. (some k λ x. r l x && s x) && d l g) ⇒ asked q e g)))
-      (λ e. c e ⇒ all n (λ q. all k (λ l. all k (λ x. (r l x && s x) ⇒ all k (λ g. d l g ⇒ asked q e g)))))
+      all-same k (λ e. c e ⇒ all n (λ q. all k (λ g. ((some k λ l. (some k λ x. r l x && s x) && d l g) && applies e g) ⇒ asked q e g)))
+      (λ e. c e ⇒ all n (λ q. all k (λ l. all k (λ x. (r l x && s x) ⇒ all k (λ g. d l g ⇒ (applies e g ⇒ asked q e g))))))
       (λ e le. ap (λ u. c e ⇒ u)
-      (all-same n (λ q. all k (λ g. (some k λ l. (some k λ x. r l x && s x) && d l g) ⇒ asked q e g))
-      (λ q. all k (λ l. all k (λ x. (r l x && s x) ⇒ all k (λ g. d l g ⇒ asked q e g))))
+      (all-same n (λ q. all k (λ g. ((some k λ l. (some k λ x. r l x && s x) && d l g) && applies e g) ⇒ asked q e g))
+      (λ q. all k (λ l. all k (λ x. (r l x && s x) ⇒ all k (λ g. d l g ⇒ (applies e g ⇒ asked q e g)))))
       (λ q lq.
-      union-inside k k (λ l. some k λ x. r l x && s x) d (asked q e)
-      ∙ all-same k (λ l. (some k λ x. r l x && s x) ⇒ all k (λ g. d l g ⇒ asked q e g)) (λ l. all k (λ x. (r l x && s x) ⇒ all k (λ g. d l g ⇒ asked q e g)))
-      (λ l ll. some-imp k (λ x. r l x && s x) (all k (λ g. d l g ⇒ asked q e g))))))
+      all-same k (λ g. ((some k λ l. (some k λ x. r l x && s x) && d l g) && applies e g) ⇒ asked q e g) (λ g. (some k λ l. (some k λ x. r l x && s x) && d l g) ⇒ (applies e g ⇒ asked q e g))
+      (λ g lg. imp-and (some k λ l. (some k λ x. r l x && s x) && d l g) (applies e g) (asked q e g))
+      ∙ union-inside k k (λ l. some k λ x. r l x && s x) d (λ g. applies e g ⇒ asked q e g)
+      ∙ all-same k (λ l. (some k λ x. r l x && s x) ⇒ all k (λ g. d l g ⇒ (applies e g ⇒ asked q e g))) (λ l. all k (λ x. (r l x && s x) ⇒ all k (λ g. d l g ⇒ (applies e g ⇒ asked q e g))))
+      (λ l ll. some-imp k (λ x. r l x && s x) (all k (λ g. d l g ⇒ (applies e g ⇒ asked q e g)))))))
 
-  gathered : T (all k (λ e. c e ⇒ all n (λ q. all k (λ l. all k (λ x. (r l x && s x) ⇒ all k (λ g. d l g ⇒ asked q e g))))))
-      → T (all k (λ x. s x ⇒ all k (λ l. r l x ⇒ all k (λ g. d l g ⇒ all k (λ e. c e ⇒ all n (λ q. asked q e g))))))
+  gathered : T (all k (λ e. c e ⇒ all n (λ q. all k (λ l. all k (λ x. (r l x && s x) ⇒ all k (λ g. d l g ⇒ (applies e g ⇒ asked q e g)))))))
+      → T (all k (λ x. s x ⇒ all k (λ l. r l x ⇒ all k (λ g. d l g ⇒ all k (λ e. (c e && applies e g) ⇒ all n (λ q. asked q e g))))))
   gathered t =
-      let h : (e : ℕ) → e < k → T (c e) → (q : ℕ) → q < n → (l : ℕ) → l < k → (x : ℕ) → x < k → (T (r l x) × T (s x)) → (g : ℕ) → g < k → T (d l g) → T (asked q e g)
+      let h : (e : ℕ) → e < k → T (c e) → (q : ℕ) → q < n → (l : ℕ) → l < k → (x : ℕ) → x < k → (T (r l x) × T (s x)) → (g : ℕ) → g < k → T (d l g) → T (applies e g) → T (asked q e g)
       = simp (all-iff, and-iff, imp-iff) at t in
-      simp (all-iff, and-iff, imp-iff) (λ x lx hs l ll hr g lg hd e le hc q lq. h e le hc q lq l ll x lx (hr, hs) g lg hd)
+      simp (all-iff, and-iff, imp-iff) (λ x lx hs l ll hr g lg hd e le hc q lq. h e le (hc .0) q lq l ll x lx (hr, hs) g lg hd (hc .1))
 
-  scattered : T (all k (λ x. s x ⇒ all k (λ l. r l x ⇒ all k (λ g. d l g ⇒ all k (λ e. c e ⇒ all n (λ q. asked q e g))))))
-      → T (all k (λ e. c e ⇒ all n (λ q. all k (λ l. all k (λ x. (r l x && s x) ⇒ all k (λ g. d l g ⇒ asked q e g))))))
+  scattered : T (all k (λ x. s x ⇒ all k (λ l. r l x ⇒ all k (λ g. d l g ⇒ all k (λ e. (c e && applies e g) ⇒ all n (λ q. asked q e g))))))
+      → T (all k (λ e. c e ⇒ all n (λ q. all k (λ l. all k (λ x. (r l x && s x) ⇒ all k (λ g. d l g ⇒ (applies e g ⇒ asked q e g)))))))
   scattered t =
-      let h : (x : ℕ) → x < k → T (s x) → (l : ℕ) → l < k → T (r l x) → (g : ℕ) → g < k → T (d l g) → (e : ℕ) → e < k → T (c e) → (q : ℕ) → q < n → T (asked q e g)
+      let h : (x : ℕ) → x < k → T (s x) → (l : ℕ) → l < k → T (r l x) → (g : ℕ) → g < k → T (d l g) → (e : ℕ) → e < k → (T (c e) × T (applies e g)) → (q : ℕ) → q < n → T (asked q e g)
       = simp (all-iff, and-iff, imp-iff) at t in
-      simp (all-iff, and-iff, imp-iff) (λ e le hc q lq l ll x lx hrs g lg hd. h x lx (hrs .1) l ll (hrs .0) g lg hd e le hc q lq)
+      simp (all-iff, and-iff, imp-iff) (λ e le hc q lq l ll x lx hrs g lg hd ha. h x lx (hrs .1) l ll (hrs .0) g lg hd e le (hc, ha) q lq)
 
-  pub store-by-store : all k (λ e. c e ⇒ all n (λ q. all k (λ g. (some k λ l. (some k λ x. r l x && s x) && d l g) ⇒ asked q e g)))
-      ≡ all k (λ x. s x ⇒ all k (λ l. r l x ⇒ all k (λ g. d l g ⇒ all k (λ e. c e ⇒ all n (λ q. asked q e g)))))
+  store-by-store : carried k n c (λ g. some k λ l. (some k λ x. r l x && s x) && d l g) applies asked
+      ≡ all k (λ x. s x ⇒ all k (λ l. r l x ⇒ all k (λ g. d l g ⇒ all k (λ e. (c e && applies e g) ⇒ all n (λ q. asked q e g)))))
   store-by-store =
       spread
-      ∙ same-test (all k (λ e. c e ⇒ all n (λ q. all k (λ l. all k (λ x. (r l x && s x) ⇒ all k (λ g. d l g ⇒ asked q e g))))))
-      (all k (λ x. s x ⇒ all k (λ l. r l x ⇒ all k (λ g. d l g ⇒ all k (λ e. c e ⇒ all n (λ q. asked q e g)))))) gathered scattered
+      ∙ same-test (all k (λ e. c e ⇒ all n (λ q. all k (λ l. all k (λ x. (r l x && s x) ⇒ all k (λ g. d l g ⇒ (applies e g ⇒ asked q e g)))))))
+      (all k (λ x. s x ⇒ all k (λ l. r l x ⇒ all k (λ g. d l g ⇒ all k (λ e. (c e && applies e g) ⇒ all n (λ q. asked q e g)))))) gathered scattered
 
 -- the same reached set by another test
 pub reached-same : (k : ℕ) (read d : ℕ → ℕ → Bool) {set r : ℕ} {s : ℕ → Bool} → Set set s
@@ -188,3 +227,13 @@ pub reached-same : (k : ℕ) (read d : ℕ → ℕ → Bool) {set r : ℕ} {s : 
 reached-same k read d {set} {r} {s} h g = set-same g (λ e.
     some-same k (λ l. (some k λ x. read l x && bit set x) && d l e) (λ l. (some k λ x. read l x && s x) && d l e)
     (λ l ll. ap (λ u. u && d l e) (some-same k (λ x. read l x && bit set x) (λ x. read l x && s x) (λ x lx. ap (λ u. read l x && u) (h .has x)))))
+
+-- 18 at f, from the thread's barriers and what f reaches
+pub carried-on-at : (k n own barriers : ℕ) (applicable : ℕ → ℕ → ℕ → Bool) (isStore : ℕ → Bool) (read : ℕ → ℕ → Bool) (thread : ℕ → ℕ) (p : ℕ) (known asked : Relation) (f : ℕ) {fences then : ℕ} {x : Bool}
+    → fences ≡ bitAnd barriers own → Set then (reached k read thread known (λ s. isStore s && bit own s && known p f s))
+    → x ≡ (bit fences f ⇒ carried k n (λ e. known p e f) (bit then) (applicable f) asked)
+    → x ≡ carriedOn k n (bit own) (bit barriers) applicable isStore read thread p known asked f
+carried-on-at k n own barriers applicable isStore read thread p known asked f hf t h =
+    h ∙ ap₂ (λ u v. u ⇒ v) (fences-set barriers own hf .has f)
+    (then-set k n (λ e. known p e f) (applicable f) asked t
+    ∙ store-by-store k n (λ e. known p e f) (λ s. isStore s && bit own s && known p f s) read (λ l g. known (thread l) l g) (applicable f) asked)

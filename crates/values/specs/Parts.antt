@@ -33,14 +33,15 @@ module _ (k : ℕ) where
       judged l ⇒ (all k λ s. (storeFor l s && seen s)
       ⇒ ((some k λ x. storeFor l x && not (eqb x s) && asked s x && asked x l) || equal l s || asked l s))
 
-  -- of n threads: every event of first comes before every event of then in every thread's order
-  abbrev pub carried : (n : ℕ) (first then : ℕ → Bool) (asked : Relation) → Bool
-  carried n first then asked = all k λ e. first e ⇒ (all n λ q. all k λ g. then g ⇒ asked q e g)
+  -- of n threads: every event e of first comes before each event g of then for which `applies e g`, in every thread's order
+  abbrev pub carried : (n : ℕ) (first then : ℕ → Bool) (applies : ℕ → ℕ → Bool) (asked : Relation) → Bool
+  carried n first then applies asked = all k λ e. first e ⇒ (all n λ q. all k λ g. (then g && applies e g) ⇒ asked q e g)
 
   -- 17 at f, own: the thread's events
-  abbrev pub cumulative : (n : ℕ) (own barrier : ℕ → Bool) (known : ℕ → ℕ → Bool) (asked : Relation) → ℕ → Bool
-  cumulative n own barrier known asked f =
-      (barrier f && own f) ⇒ (all k λ e. known e f ⇒ (all k λ g. (own g && known f g) ⇒ (all n λ q. asked q e g)))
+  abbrev pub cumulative : (n : ℕ) (own barrier : ℕ → Bool) (applicable : ℕ → ℕ → ℕ → Bool) (known : ℕ → ℕ → Bool) (asked : Relation) → ℕ → Bool
+  cumulative n own barrier applicable known asked f =
+      (barrier f && own f)
+      ⇒ (all k λ e. known e f ⇒ (all k λ g. (own g && known f g && applicable f e g) ⇒ (all n λ q. asked q e g)))
 
   -- load l must read from s: sources are the stores to its address, rivals those that may come before it
   abbrev pub mustReadOf : (sources rivals : ℕ → Bool) (known : ℕ → ℕ → Bool) → ℕ → ℕ → Bool
@@ -51,8 +52,8 @@ module _ (k : ℕ) where
   reached read thread known set g = some k λ l. (some k λ s. read l s && set s) && known (thread l) l g
 
   -- 18 at f
-  abbrev pub carriedOn : (n : ℕ) (own barrier isStore : ℕ → Bool) (read : ℕ → ℕ → Bool) (thread : ℕ → ℕ) (p : ℕ) (known asked : Relation) → ℕ → Bool
-  carriedOn n own barrier isStore read thread p known asked f =
+  abbrev pub carriedOn : (n : ℕ) (own barrier : ℕ → Bool) (applicable : ℕ → ℕ → ℕ → Bool) (isStore : ℕ → Bool) (read : ℕ → ℕ → Bool) (thread : ℕ → ℕ) (p : ℕ) (known asked : Relation) → ℕ → Bool
+  carriedOn n own barrier applicable isStore read thread p known asked f =
       (barrier f && own f) ⇒ (all k λ s. (isStore s && own s && known p f s)
       ⇒ (all k λ l. read l s
-      ⇒ (all k λ g. known (thread l) l g ⇒ (all k λ e. known p e f ⇒ (all n λ q. asked q e g)))))
+      ⇒ (all k λ g. known (thread l) l g ⇒ (all k λ e. (known p e f && applicable f e g) ⇒ (all n λ q. asked q e g)))))

@@ -8,7 +8,7 @@ ghost use lib.ListN.{getD};
 ghost use Rattle.finite.specs.Tests.{all, some, _⇒_};
 ghost use Rattle.bits.specs.Bit.{bit};
 ghost use Rattle.model.specs.Limits.{mostThreads, mostEvents};
-ghost use Rattle.rows.specs.Sets.{Set, Sets, orderIn, setIn, storeIn};
+ghost use Rattle.rows.specs.Sets.{Set, Sets, orderIn, setIn, storeIn, applicableIn};
 ghost use Rattle.rows.specs.May.{may15, may16, may17, may18, mustRead};
 ghost use Rattle.values.specs.Parts.{equalIn, threadIn, supplied, explained, overwritten, carried as carriedOf, cumulative, mustReadOf, reached as reachedOf, carriedOn};
 use case::Case;
@@ -276,10 +276,26 @@ fn leads_everywhere(
     true
 }
 
-// So does event e, if it is one of the first.
+// Of the set, what barrier f orders after event e: `light` holds, by event, what a light one does.
+fn ordered_after(set: u64, syncs: u64, light: &[u64; Case::MOST_EVENTS], f: usize, e: usize) -> u64
+    requires { ⌜ f < mostEvents ⌝ }
+    requires { ⌜ e < mostEvents ⌝ }
+    ensures { λ r. ⌜ Set r (λ g. bit set g && applicableIn syncs (now (light .entry)) f e g) ⌝ }
+{
+    if bits::has(syncs, f) {
+        set
+    } else {
+        set & light[e]
+    }
+}
+
+// Event e, if it is one of the first, comes before what barrier f orders after it, in every thread's order.
 fn carried_event(
     first: u64,
     then: u64,
+    syncs: u64,
+    light: &[u64; Case::MOST_EVENTS],
+    f: usize,
     asked: &[u64; Case::MOST_THREADS * Case::MOST_EVENTS],
     n: usize,
     k: usize,
@@ -287,31 +303,37 @@ fn carried_event(
 ) -> bool
     requires { ⌜ n ≤ mostThreads ⌝ }
     requires { ⌜ k ≤ mostEvents ⌝ }
+    requires { ⌜ f < k ⌝ }
     requires { ⌜ e < k ⌝ }
-    ensures { λ r. ⌜ r ≡ (bit first e ⇒ all n (λ q. all k (λ g. bit then g ⇒ orderIn (now (asked .entry)) q e g))) ⌝ }
+    ensures { λ r. ⌜ r ≡ (bit first e ⇒ all n (λ q. all k (λ g. (bit then g && applicableIn syncs (now (light .entry)) f e g) ⇒ orderIn (now (asked .entry)) q e g))) ⌝ }
 {
     if bits::has(first, e) {
-        leads_everywhere(asked, n, k, then, e)
+        leads_everywhere(asked, n, k, ordered_after(then, syncs, light, f, e), e)
     } else {
         true
     }
 }
 
-// Every event of the first set comes before every event of the second in every thread's order.
+// Every event of the first set comes before every event of the second that barrier f orders after it.
 fn carried(
     first: u64,
     then: u64,
+    syncs: u64,
+    light: &[u64; Case::MOST_EVENTS],
+    f: usize,
     asked: &[u64; Case::MOST_THREADS * Case::MOST_EVENTS],
     n: usize,
     k: usize,
 ) -> bool
     requires { ⌜ n ≤ mostThreads ⌝ }
     requires { ⌜ k ≤ mostEvents ⌝ }
-    ensures { λ r. ⌜ r ≡ carriedOf k n (bit first) (bit then) (orderIn (now (asked .entry))) ⌝ }
+    requires { ⌜ f < k ⌝ }
+    ensures { λ r. ⌜ r ≡ carriedOf k n (bit first) (bit then) (applicableIn syncs (now (light .entry)) f) (orderIn (now (asked .entry))) ⌝ }
 {
     let mut rest = bits::both(first, bits::below(k));
     while rest != 0 {
-        if !carried_event(first, then, asked, n, k, rows::lowest(rest)) {
+        let e = rows::lowest(rest);
+        if !carried_event(first, then, syncs, light, f, asked, n, k, e) {
             return false;
         }
         rest = rows::but_lowest(rest);
@@ -319,10 +341,12 @@ fn carried(
     true
 }
 
-// Rule 17 at f, if it is a barrier of thread p.
-fn cumulative_event(
-    own: u64,
+// So does every event before f in thread p's order, if f is one of the fences.
+fn carried_past(
+    fences: u64,
+    then: u64,
     syncs: u64,
+    light: &[u64; Case::MOST_EVENTS],
     known: &[u64; Case::MOST_THREADS * Case::MOST_EVENTS],
     asked: &[u64; Case::MOST_THREADS * Case::MOST_EVENTS],
     n: usize,
@@ -334,12 +358,15 @@ fn cumulative_event(
     requires { ⌜ k ≤ mostEvents ⌝ }
     requires { ⌜ p < mostThreads ⌝ }
     requires { ⌜ f < k ⌝ }
-    ensures { λ r. ⌜ r ≡ cumulative k n (bit own) (bit syncs) (orderIn (now (known .entry)) p) (orderIn (now (asked .entry))) f ⌝ }
+    ensures { λ r. ⌜ r ≡ (bit fences f ⇒ carriedOf k n (λ e. orderIn (now (known .entry)) p e f) (bit then) (applicableIn syncs (now (light .entry)) f) (orderIn (now (asked .entry)))) ⌝ }
 {
-    if bits::has(bits::both(syncs, own), f) {
+    if bits::has(fences, f) {
         carried(
             rows::before(known, k, p, f),
-            bits::both(own, rows::row(known, p, f)),
+            then,
+            syncs,
+            light,
+            f,
             asked,
             n,
             k,
@@ -349,10 +376,26 @@ fn cumulative_event(
     }
 }
 
+// The events of the set that come after f, in p's order.
+fn after_of(
+    known: &[u64; Case::MOST_THREADS * Case::MOST_EVENTS],
+    p: usize,
+    set: u64,
+    f: usize,
+) -> u64
+    requires { ⌜ p < mostThreads ⌝ }
+    requires { ⌜ f < mostEvents ⌝ }
+    ensures { λ r. ⌜ Set r (λ e. bit set e && orderIn (now (known .entry)) p f e) ⌝ }
+{
+    bits::both(set, rows::row(known, p, f))
+}
+
 // Rule 17 of thread p.
 fn cumulative_order(
     own: u64,
+    barriers: u64,
     syncs: u64,
+    light: &[u64; Case::MOST_EVENTS],
     known: &[u64; Case::MOST_THREADS * Case::MOST_EVENTS],
     asked: &[u64; Case::MOST_THREADS * Case::MOST_EVENTS],
     n: usize,
@@ -362,12 +405,14 @@ fn cumulative_order(
     requires { ⌜ n ≤ mostThreads ⌝ }
     requires { ⌜ k ≤ mostEvents ⌝ }
     requires { ⌜ p < mostThreads ⌝ }
-    ensures { λ r. ⌜ r ≡ all k (cumulative k n (bit own) (bit syncs) (orderIn (now (known .entry)) p) (orderIn (now (asked .entry)))) ⌝ }
+    ensures { λ r. ⌜ r ≡ all k (cumulative k n (bit own) (bit barriers) (applicableIn syncs (now (light .entry))) (orderIn (now (known .entry)) p) (orderIn (now (asked .entry)))) ⌝ }
 {
-    let fences = bits::both(syncs, own);
+    let fences = bits::both(barriers, own);
     let mut rest = bits::both(fences, bits::below(k));
     while rest != 0 {
-        if !cumulative_event(own, syncs, known, asked, n, k, p, rows::lowest(rest)) {
+        let f = rows::lowest(rest);
+        let then = after_of(known, p, own, f);
+        if !carried_past(fences, then, syncs, light, known, asked, n, k, p, f) {
             return false;
         }
         rest = rows::but_lowest(rest);
@@ -375,10 +420,13 @@ fn cumulative_order(
     true
 }
 
-// Rule 17. `own` holds each thread's events.
+// Rule 17. `own` holds each thread's events; `light`, by event, what a light barrier orders after it; of the barriers, the
+// syncs order every two events.
 pub fn rule17<'a>(
     own: &'a [u64; Case::MOST_THREADS],
+    barriers: u64,
     syncs: u64,
+    light: &'a [u64; Case::MOST_EVENTS],
     known: &'a [u64; Case::MOST_THREADS * Case::MOST_EVENTS],
     asked: &'a [u64; Case::MOST_THREADS * Case::MOST_EVENTS],
     n: usize,
@@ -386,10 +434,10 @@ pub fn rule17<'a>(
 ) -> bool
     requires { ⌜ n ≤ mostThreads ⌝ }
     requires { ⌜ k ≤ mostEvents ⌝ }
-    ensures { λ r. ⌜ r ≡ may17 n k (setIn (now (own .entry))) (bit syncs) (orderIn (now (known .entry))) (orderIn (now (asked .entry))) ⌝ }
+    ensures { λ r. ⌜ r ≡ may17 n k (setIn (now (own .entry))) (bit barriers) (applicableIn syncs (now (light .entry))) (orderIn (now (known .entry))) (orderIn (now (asked .entry))) ⌝ }
 {
     for p in 0..n {
-        if !cumulative_order(own[p], syncs, known, asked, n, k, p) {
+        if !cumulative_order(own[p], barriers, syncs, light, known, asked, n, k, p) {
             return false;
         }
     }
@@ -556,40 +604,33 @@ fn reached(
     found
 }
 
-// Rule 18 at f, if it is a barrier of thread p.
-fn carried_on_event(
+// What comes after a load that must read from a store of thread p after f, in the load's thread's order.
+fn reached_from(
     own: u64,
-    syncs: u64,
     stores: u64,
     read: &[u64; Case::MOST_EVENTS],
     threads: &[u8; Case::MOST_EVENTS],
     known: &[u64; Case::MOST_THREADS * Case::MOST_EVENTS],
-    asked: &[u64; Case::MOST_THREADS * Case::MOST_EVENTS],
-    n: usize,
     k: usize,
     p: usize,
     f: usize,
-) -> bool
-    requires { ⌜ n ≤ mostThreads ⌝ }
+) -> u64
     requires { ⌜ k ≤ mostEvents ⌝ }
     requires { ⌜ p < mostThreads ⌝ }
     requires { ⌜ f < k ⌝ }
     requires { ⌜ ((l : ℕ) → l < k → getD (now threads) l 0 < mostThreads) ⌝ }
-    ensures { λ r. ⌜ r ≡ carriedOn k n (bit own) (bit syncs) (bit stores) (setIn (now (read .entry))) (threadIn (now (threads .entry))) p (orderIn (now (known .entry))) (orderIn (now (asked .entry))) f ⌝ }
+    ensures { λ r. ⌜ Set r (reachedOf k (setIn (now (read .entry))) (threadIn (now (threads .entry))) (orderIn (now (known .entry))) (λ s. bit stores s && bit own s && orderIn (now (known .entry)) p f s)) ⌝ }
 {
-    if bits::has(bits::both(syncs, own), f) {
-        let those = bits::both(bits::both(stores, own), rows::row(known, p, f));
-        let then = reached(read, threads, known, k, those);
-        carried(rows::before(known, k, p, f), then, asked, n, k)
-    } else {
-        true
-    }
+    let those = after_of(known, p, bits::both(stores, own), f);
+    reached(read, threads, known, k, those)
 }
 
 // Rule 18 of thread p.
 fn carried_on_order(
     own: u64,
+    barriers: u64,
     syncs: u64,
+    light: &[u64; Case::MOST_EVENTS],
     stores: u64,
     read: &[u64; Case::MOST_EVENTS],
     threads: &[u8; Case::MOST_EVENTS],
@@ -603,24 +644,14 @@ fn carried_on_order(
     requires { ⌜ k ≤ mostEvents ⌝ }
     requires { ⌜ p < mostThreads ⌝ }
     requires { ⌜ ((l : ℕ) → l < k → getD (now threads) l 0 < mostThreads) ⌝ }
-    ensures { λ r. ⌜ r ≡ all k (carriedOn k n (bit own) (bit syncs) (bit stores) (setIn (now (read .entry))) (threadIn (now (threads .entry))) p (orderIn (now (known .entry))) (orderIn (now (asked .entry)))) ⌝ }
+    ensures { λ r. ⌜ r ≡ all k (carriedOn k n (bit own) (bit barriers) (applicableIn syncs (now (light .entry))) (bit stores) (setIn (now (read .entry))) (threadIn (now (threads .entry))) p (orderIn (now (known .entry))) (orderIn (now (asked .entry)))) ⌝ }
 {
-    let fences = bits::both(syncs, own);
+    let fences = bits::both(barriers, own);
     let mut rest = bits::both(fences, bits::below(k));
     while rest != 0 {
-        if !carried_on_event(
-            own,
-            syncs,
-            stores,
-            read,
-            threads,
-            known,
-            asked,
-            n,
-            k,
-            p,
-            rows::lowest(rest),
-        ) {
+        let f = rows::lowest(rest);
+        let then = reached_from(own, stores, read, threads, known, k, p, f);
+        if !carried_past(fences, then, syncs, light, known, asked, n, k, p, f) {
             return false;
         }
         rest = rows::but_lowest(rest);
@@ -631,7 +662,9 @@ fn carried_on_order(
 // Rule 18. `read` holds, by load, the stores from which it must read.
 pub fn rule18<'a>(
     own: &'a [u64; Case::MOST_THREADS],
+    barriers: u64,
     syncs: u64,
+    light: &'a [u64; Case::MOST_EVENTS],
     stores: u64,
     read: &'a [u64; Case::MOST_EVENTS],
     threads: &'a [u8; Case::MOST_EVENTS],
@@ -643,10 +676,23 @@ pub fn rule18<'a>(
     requires { ⌜ n ≤ mostThreads ⌝ }
     requires { ⌜ k ≤ mostEvents ⌝ }
     requires { ⌜ ((l : ℕ) → l < k → getD (now threads) l 0 < mostThreads) ⌝ }
-    ensures { λ r. ⌜ r ≡ may18 n k (setIn (now (own .entry))) (bit syncs) (bit stores) (setIn (now (read .entry))) (threadIn (now (threads .entry))) (orderIn (now (known .entry))) (orderIn (now (asked .entry))) ⌝ }
+    ensures { λ r. ⌜ r ≡ may18 n k (setIn (now (own .entry))) (bit barriers) (applicableIn syncs (now (light .entry))) (bit stores) (setIn (now (read .entry))) (threadIn (now (threads .entry))) (orderIn (now (known .entry))) (orderIn (now (asked .entry))) ⌝ }
 {
     for p in 0..n {
-        if !carried_on_order(own[p], syncs, stores, read, threads, known, asked, n, k, p) {
+        if !carried_on_order(
+            own[p],
+            barriers,
+            syncs,
+            light,
+            stores,
+            read,
+            threads,
+            known,
+            asked,
+            n,
+            k,
+            p,
+        ) {
             return false;
         }
     }

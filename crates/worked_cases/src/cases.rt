@@ -66,17 +66,35 @@ fn renumbered_alike(record: &[u8], c: Case, read: Answer) -> bool {
     false
 }
 
+// The case with something in the room of dependencies, which edition 1 does not have.
+fn with_spare_links(c: Case) -> Case {
+    let mut spare = c;
+    if !case::is_second(c.edition) {
+        spare.dependencies = Case::MOST_DEPENDENCIES + 1;
+        spare.class[0] = Case::LWSYNC;
+    }
+    spare
+}
+
+// Whether judging and writing the case agree with the calls on its record.
+fn agrees(record: &[u8], c: Case, read: Answer) -> bool {
+    if judged_alike(record, c, 0) {
+        if judged_alike(record, c, 1) {
+            if written_back(record, c, read) {
+                return renumbered_alike(record, c, read);
+            }
+        }
+    }
+    false
+}
+
 // Whether every call on the case read from a record agrees with the calls on the record.
 pub fn case_agrees(record: &[u8]) -> bool {
     let reading = litmus::read(record);
     let read = reading.answer;
     let case = reading.case;
-    if judged_alike(record, case, 0) {
-        if judged_alike(record, case, 1) {
-            if written_back(record, case, read) {
-                return renumbered_alike(record, case, read);
-            }
-        }
+    if agrees(record, case, read) {
+        return agrees(record, with_spare_links(case), read);
     }
     false
 }

@@ -68,9 +68,43 @@ fn known_tests() {
     judged(b"IRIW", &records::IRIW);
 }
 
+// Edition 2: lwsync and dependencies.
+fn second_edition() {
+    judged(b"SB with lwsyncs", &records::SB_LWSYNC);
+    judged(b"SB with syncs", &records::SB_SYNC);
+    judged(b"MP with lwsyncs, the last load 0", &records::MP_LWSYNC);
+    judged(
+        b"MP with one sync, thread 1 from 4<0<2<3",
+        &records::MP_SYNC,
+    );
+    judged(
+        b"MP, an address dependency from 3 to 4",
+        &records::MP_DEPENDENCY,
+    );
+    judged(b"IRIW with lwsyncs", &records::IRIW_LWSYNC);
+}
+
+// Dependencies that may not stand where they do.
+fn unfit_dependencies() {
+    judged(b"A data dependency into a load", &records::DATA_INTO_LOAD);
+    judged(b"A control dependency to a load", &records::CONTROL_TO_LOAD);
+    judged(b"A dependency from a store", &records::FROM_STORE);
+    judged(b"A dependency across threads", &records::ACROSS_THREADS);
+    judged(
+        b"A dependency equal to the one before",
+        &records::EQUAL_ENTRIES,
+    );
+    judged(
+        b"A dependency below the one before",
+        &records::FALLING_ENTRIES,
+    );
+    judged(b"97 dependencies", &records::DEPENDENCIES_97);
+}
+
 fn ranges() {
     judged(b"Empty input", b"");
-    judged(b"Edition 2", &records::EDITION_2);
+    judged(b"Edition 3", &records::EDITION_3);
+    judged(b"Kind 3 in edition 1", &records::KIND_3);
     judged(b"n = 5", &records::THREADS_5);
     judged(b"k = 24", &records::EVENTS_24);
     judged(b"k = 25", &records::EVENTS_25);
@@ -123,6 +157,8 @@ fn permutations() {
 fn main() {
     orders_and_values();
     known_tests();
+    second_edition();
+    unfit_dependencies();
     ranges();
     number_forms();
     renumbered(b"Small record, addresses by 6", 0, 6);

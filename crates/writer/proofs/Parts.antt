@@ -14,18 +14,20 @@ use Rattle.finite.proofs.Tests.{count-same}
 use Rattle.finite.proofs.Lists.{table-length, table-snoc, each-append}
 use Rattle.bits.specs.Bit.{bit}
 use Rattle.number.specs.Number.{encode, splice}
-use Rattle.model.specs.Limits.{mostEvents}
+use Rattle.model.specs.Limits.{second, mostEvents, mostDependencies}
+use Rattle.model.specs.Case.{Dependency}
 use Rattle.model.specs.Record.{Pair}
-use Rattle.model.specs.Written.{eventBytes, pairBytes, rowPairs, rowsPairs, orderBytes, recordOf}
+use Rattle.model.specs.Written.{eventBytes, dependencyBytes, dependenciesBytes, pairBytes, rowPairs, rowsPairs, orderBytes, recordOf}
 use Rattle.model.specs.Answers.{put}
 use Rattle.case.specs.declared.Case.{Case as Held}
-use Rattle.case.specs.Held.{eventsOf, caseOf}
+use Rattle.case.specs.Held.{eventsOf, linkCount, link, linksOf, caseOf}
+use Rattle.case.specs.Sound.{Sound}
 use Rattle.case.specs.Stores.{storeAt, writesAt}
 use Rattle.case.proofs.Masks.{bit-left}
 use Rattle.case.proofs.Means.{writes-of}
-use Rattle.writer.specs.Stages.{run, sum, frontBytes, initialAt, eventAt, listingBytes, entryAt, writesOf, bitBytes, rowAt, pairsAt, pairs, orderAt, byteAt, nameBytes, restBytes, Room, Wrote, Size}
+use Rattle.writer.specs.Stages.{run, sum, initialAt, eventAt, listingBytes, linkAt, linksBytes, entryAt, writesOf, bitBytes, rowAt, pairsAt, pairs, orderAt, byteAt, nameBytes, restBytes, Room, Wrote, Size}
 use Rattle.writer.specs.Stored.{storedOf}
-use Rattle.writer.proofs.Runs.{size-three, room-one, room-two, room-three, wrote-three}
+use Rattle.writer.proofs.Runs.{size-append, size-three, room-first, room-then, wrote-then, room-one, room-two, room-three, wrote-three}
 
 -- ---- runs and tables
 pub run-same : (n : ℕ) (g h : ℕ → List ℕ) → ((i : ℕ) → i < n → g i ≡ h i) → run g n ≡ run h n
@@ -138,7 +140,7 @@ order-bytes rows k p =
 -- ---- the record
 module _ (c : Held) where
   abbrev front : List ℕ
-  front = frontBytes (c .edition) (c .threads) (c .addresses)
+  front = encode (c .edition) ++ (encode (c .threads) ++ encode (c .addresses))
 
   abbrev listing : List ℕ
   listing = listingBytes (c .initial) (c .kind) (c .thread) (c .address) (c .value) (c .addresses) (c .events)
@@ -173,30 +175,53 @@ module _ (c : Held) where
   unfolding caseOf
   name-long = table-length 0 (c .namelength) _
 
-  pub record-by : recordOf (caseOf c) ≡ front ++ (listing ++ rest)
-  unfolding recordOf caseOf frontBytes listingBytes restBytes nameBytes
-  record-by = rw (initials-are, events-are, writes-are, orders-are, name-long, name-is) (simp append-assoc)
+  -- i is how many dependencies there are
+  module _ (i : ℕ) (e : i ≡ linkCount (c .edition) (c .dependencies)) where
+    abbrev links : List ℕ
+    links = linksBytes (c .edition) (c .class) (c .from) (c .to) i
 
-  pub record-size : (a b d x y q : ℕ) → Size front a x → Size listing b y → Size rest d q → x + (y + q) ≡ length (recordOf (caseOf c))
-  record-size a b d x y q f g h = size-three front listing rest a b d x y q f g h .size ∙ ap length (sym record-by)
+    pub links-few : Sound c → i ≤ mostDependencies
+    links-few h = rw e (h .links-most)
 
-  module _ (s : List ℕ) (at : ℕ) (r : Room s at (recordOf (caseOf c))) where
-    whole : Room s at (front ++ (listing ++ rest))
-    whole = rw record-by at r
+    links-are : dependenciesBytes (c .edition) (caseOf c .dependencies) ≡ links
+    unfolding caseOf dependenciesBytes linksOf linksBytes linkAt
+    links-are =
+        let f : ℕ → Dependency = λ j. link (getD (c .class) j 0) (getD (c .from) j 0) (getD (c .to) j 0) in
+        rw (← e, table-length 0 i f) (ap (λ (l : List ℕ). cond (second (c .edition)) (encode i ++ l) []) (each-run dependencyBytes f i))
 
-    pub front-room : Room s at front
-    front-room = room-one s at front listing rest whole
+    record-by : recordOf (caseOf c) ≡ front ++ (listing ++ (links ++ rest))
+    unfolding recordOf caseOf listingBytes restBytes nameBytes
+    record-by = rw (initials-are, events-are, links-are, writes-are, orders-are, name-long, name-is) (simp append-assoc)
 
-    module _ (t : List ℕ) (p : ℕ) (f : Wrote s at front t p) where
-      pub listing-room : Room t p listing
-      listing-room = room-two s at front listing rest whole t p f
+    pub record-size : (a b d g x y q z : ℕ) → Size front a x → Size listing b y → Size links d q → Size rest g z → x + (y + (q + z)) ≡ length (recordOf (caseOf c))
+    record-size a b d g x y q z f l h r =
+        size-append front (listing ++ (links ++ rest)) a (b + (d + g)) x (y + (q + z)) f (size-three listing links rest b d g y q z l h r) .size ∙ ap length (sym record-by)
 
-      module _ (u : List ℕ) (q : ℕ) (g : Wrote t p listing u q) where
-        pub rest-room : Room u q rest
-        rest-room = room-three s at front listing rest whole t p f u q g
+    module _ (s : List ℕ) (at : ℕ) (r : Room s at (recordOf (caseOf c))) where
+      whole : Room s at (front ++ (listing ++ (links ++ rest)))
+      whole = rw record-by at r
 
-        pub record-wrote : (u′ : List ℕ) (q′ : ℕ) → Wrote u q rest u′ q′ → Wrote s at (recordOf (caseOf c)) u′ q′
-        record-wrote u′ q′ h = rw record-by (wrote-three s at front listing rest whole t p f u q g u′ q′ h)
+      pub front-room : Room s at front
+      front-room = room-first s at front (listing ++ (links ++ rest)) whole
+
+      module _ (t : List ℕ) (p : ℕ) (f : Wrote s at front t p) where
+        others : Room t p (listing ++ (links ++ rest))
+        others = room-then s at front (listing ++ (links ++ rest)) whole t p f
+
+        pub listing-room : Room t p listing
+        listing-room = room-one t p listing links rest others
+
+        module _ (u : List ℕ) (q : ℕ) (g : Wrote t p listing u q) where
+          pub links-room : Room u q links
+          links-room = room-two t p listing links rest others u q g
+
+          module _ (v : List ℕ) (o : ℕ) (l : Wrote u q links v o) where
+            pub rest-room : Room v o rest
+            rest-room = room-three t p listing links rest others u q g v o l
+
+            pub record-wrote : (v′ : List ℕ) (o′ : ℕ) → Wrote v o rest v′ o′ → Wrote s at (recordOf (caseOf c)) v′ o′
+            record-wrote v′ o′ h =
+                rw record-by (wrote-then s at front (listing ++ (links ++ rest)) whole t p f v′ o′ (wrote-three t p listing links rest others u q g v o l v′ o′ h))
 
 -- ---- a record put in a lent buffer
 module _ (w s : List ℕ) (at n : ℕ) (e : n ≡ length w) where

@@ -13,12 +13,11 @@ use Rattle.number.specs.Number.{encode, splice}
 use Rattle.number.proofs.Splice.{splice-length, splice-append, is-sets}
 use mir.Syntax.{w64}
 use mir.Val.{Fits}
-use Rattle.bits.specs.Bit.{bit}
 use Rattle.model.specs.Case.{bare}
-use Rattle.model.specs.Written.{eventBytes}
-use Rattle.case.specs.Held.{eventOf}
+use Rattle.model.specs.Written.{eventBytes, dependencyBytes}
+use Rattle.case.specs.Held.{eventOf, link}
 use Rattle.case.proofs.Events.{event-by}
-use Rattle.writer.specs.Stages.{run, sum, frontBytes, bitBytes, rowAt, pairs, orderAt, byteAt, nameBytes, Room, Wrote, Size}
+use Rattle.writer.specs.Stages.{run, sum, rowAt, pairs, orderAt, byteAt, nameBytes, Room, Wrote, Size}
 
 -- ---- sizes one behind the other
 pub size-append : (v w : List ℕ) (a b x y : ℕ) → Size v a x → Size w b y → Size (v ++ w) (a + b) (x + y)
@@ -89,15 +88,16 @@ module _ (s : List ℕ) (at : ℕ) where
   unfolding splice
   wrote-none = record { next-is = omega arith; buffer = rw (append-nil (take at s), add-zero at, take-append-drop at s) }
 
+  pub wrote-length : (w t : List ℕ) (p : ℕ) → Room s at w → Wrote s at w t p → length t ≡ length s
+  wrote-length w t p r f = ap length (f .buffer) ∙ splice-length s at w r
+
   module _ (v w : List ℕ) (r : Room s at (v ++ w)) where
     pub room-first : Room s at v
     room-first = omega (arith, length-append v w)
 
     module _ (t : List ℕ) (p : ℕ) (f : Wrote s at v t p) where
       pub room-then : Room t p w
-      room-then =
-          let n : length t ≡ length s = ap length (f .buffer) ∙ splice-length s at v room-first in
-          omega (arith, length-append v w, f .next-is)
+      room-then = omega (arith, length-append v w, f .next-is, wrote-length v t p room-first f)
 
       pub wrote-then : (u : List ℕ) (q : ℕ) → Wrote t p w u q → Wrote s at (v ++ w) u q
       wrote-then u q g = record {
@@ -140,37 +140,56 @@ module _ (h : ℕ → List ℕ) (n : ℕ) (s : List ℕ) (at : ℕ) where
     all-written l = rw (← le-antisymm (g .within) l) (g .wrote)
 
     pub same-length : length t ≡ length s
-    same-length = ap length (g .wrote .buffer) ∙ splice-length s at (run h i) (omega (arith, run-le h n i (g .within), g .room))
+    same-length = wrote-length s at (run h i) t p (omega (arith, run-le h n i (g .within), g .room)) (g .wrote)
 
 -- ---- a byte
 pub wrote-byte : (s : List ℕ) (at b : ℕ) → Room s at (b ∷ []) → Wrote s at (b ∷ []) (set s at b) (at + 1)
 wrote-byte s at b r = record { next-is = refl; buffer = is-sets s at (b ∷ []) r }
 
--- ---- a pair, if it stands in the row
-module _ (row a b : ℕ) (t : Bool) (e : t ≡ bit row b) where
-  bit-pair : t ≡ true → bitBytes row a b ≡ encode a ++ encode b
-  unfolding bitBytes
-  bit-pair y = rw (← e, y)
+-- ---- bytes w that stand only where x is true
+-- x, by the test t of it
+pub said : (x v t : Bool) → t ≡ x → t ≡ v → x ≡ v
+said x v t e y = sym e ∙ y
 
-  bit-none : t ≡ false → bitBytes row a b ≡ []
-  unfolding bitBytes
-  bit-none y = rw (← e, y)
+module _ (w : List ℕ) (x : Bool) where
+  module _ (y : x ≡ true) where
+    stands : cond x w [] ≡ w
+    stands = rw y
+
+    pub room-taken : (s : List ℕ) (at : ℕ) → Room s at (cond x w []) → Room s at w
+    room-taken s at r = rw stands at r
+
+    pub wrote-taken : (s : List ℕ) (at : ℕ) (u : List ℕ) (q : ℕ) → Wrote s at w u q → Wrote s at (cond x w []) u q
+    wrote-taken s at u q g = rw stands g
+
+    pub size-taken : (most r : ℕ) → Size w most r → Size (cond x w []) most r
+    size-taken most r z = rw stands z
+
+  module _ (y : x ≡ false) where
+    lacks : cond x w [] ≡ []
+    lacks = rw y
+
+    pub wrote-left : (s : List ℕ) (at : ℕ) → Wrote s at (cond x w []) s at
+    wrote-left s at = rw lacks (wrote-none s at)
+
+    pub size-left : (most : ℕ) → Size (cond x w []) most 0
+    size-left most = rw lacks (record { size = refl; few = omega arith })
+
+-- ---- a dependency, whose class and events are written as wx, wa and wb
+module _ (x a b wx wa wb : ℕ) (ex : wx ≡ x) (ea : wa ≡ a) (eb : wb ≡ b) where
+  link-bytes : dependencyBytes (link x a b) ≡ encode wx ++ (encode wa ++ encode wb)
+  unfolding dependencyBytes
+  link-bytes = rw (ex, ea, eb)
+
+  pub link-size : (most r : ℕ) → Size (encode wx ++ (encode wa ++ encode wb)) most r → Size (dependencyBytes (link x a b)) most r
+  link-size most r z = rw link-bytes z
 
   module _ (s : List ℕ) (at : ℕ) where
-    pub room-taken : t ≡ true → Room s at (bitBytes row a b) → Room s at (encode a ++ encode b)
-    room-taken y r = rw (bit-pair y) at r
+    pub link-room : Room s at (dependencyBytes (link x a b)) → Room s at (encode wx ++ (encode wa ++ encode wb))
+    link-room r = rw link-bytes at r
 
-    pub bit-taken : t ≡ true → (u : List ℕ) (q : ℕ) → Wrote s at (encode a ++ encode b) u q → Wrote s at (bitBytes row a b) u q
-    bit-taken y u q w = rw (bit-pair y) w
-
-    pub bit-left : t ≡ false → Wrote s at (bitBytes row a b) s at
-    bit-left y = rw (bit-none y) (wrote-none s at)
-
-  pub size-taken : t ≡ true → (most x : ℕ) → Size (encode a ++ encode b) most x → Size (bitBytes row a b) most x
-  size-taken y most x z = rw (bit-pair y) z
-
-  pub size-left : t ≡ false → (most : ℕ) → Size (bitBytes row a b) most 0
-  size-left y most = rw (bit-none y) (record { size = refl; few = omega arith })
+    pub link-wrote : (u : List ℕ) (q : ℕ) → Wrote s at (encode wx ++ (encode wa ++ encode wb)) u q → Wrote s at (dependencyBytes (link x a b)) u q
+    link-wrote u q g = rw link-bytes g
 
 -- ---- an event
 module _ (k t a v : ℕ) where
@@ -213,26 +232,6 @@ module _ (k t a v : ℕ) where
 
           pub full-wrote : (u′ : List ℕ) (q′ : ℕ) → Wrote u q (encode wa ++ encode v) u′ q′ → Wrote s at (eventBytes (eventOf k t a v)) u′ q′
           full-wrote u′ q′ w′ = rw (event-full b eb n, ← ek, ← et, ← ea) (wrote-then s at (encode wk ++ encode wt) (encode wa ++ encode v) full-room u q w u′ q′ w′)
-
--- ---- the front
-module _ (e n m : ℕ) where
-  pub front-size : (a b x y : ℕ) → Size (encode e) a x → Size (encode n ++ encode m) b y → Size (frontBytes e n m) (a + b) (x + y)
-  unfolding frontBytes
-  front-size a b x y z z′ = size-append _ _ _ _ _ _ z z′
-
-  module _ (s : List ℕ) (at : ℕ) (r : Room s at (frontBytes e n m)) where
-    pub front-room : Room s at (encode e)
-    unfolding frontBytes
-    front-room = room-first s at (encode e) (encode n ++ encode m) r
-
-    module _ (u : List ℕ) (q : ℕ) (w : Wrote s at (encode e) u q) where
-      pub front-then : Room u q (encode n ++ encode m)
-      unfolding frontBytes
-      front-then = room-then s at (encode e) (encode n ++ encode m) r u q w
-
-      pub front-wrote : (u′ : List ℕ) (q′ : ℕ) → Wrote u q (encode n ++ encode m) u′ q′ → Wrote s at (frontBytes e n m) u′ q′
-      unfolding frontBytes
-      front-wrote u′ q′ w′ = wrote-then s at (encode e) (encode n ++ encode m) r u q w u′ q′ w′
 
 -- ---- more of sums
 module _ (f : ℕ → ℕ) (n total i : ℕ) (s : Summed f n total i) (l : i < n) (x : ℕ) (e : x ≡ f i) (b : f i ≤ n) where

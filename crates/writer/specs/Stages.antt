@@ -8,9 +8,9 @@ use lib.ListN.{length, getD}
 use Rattle.finite.specs.Tests.{count}
 use Rattle.number.specs.Number.{encode, splice, widest}
 use Rattle.bits.specs.Bit.{bit}
-use Rattle.model.specs.Limits.{mostEvents}
-use Rattle.model.specs.Written.{eventBytes}
-use Rattle.case.specs.Held.{eventOf}
+use Rattle.model.specs.Limits.{second, mostEvents, mostDependencies}
+use Rattle.model.specs.Written.{eventBytes, dependencyBytes}
+use Rattle.case.specs.Held.{eventOf, link}
 use Rattle.case.specs.Stores.{storeAt}
 
 -- what h gives for the numbers below n, one behind the other
@@ -23,9 +23,6 @@ unfoldable pub sum : (ℕ → ℕ) → ℕ → ℕ
 sum f zero = 0
 sum f (suc n) = sum f n + f n
 
-unfoldable pub frontBytes : (edition n m : ℕ) → List ℕ
-frontBytes edition n m = encode edition ++ (encode n ++ encode m)
-
 unfoldable pub initialAt : List ℕ → ℕ → List ℕ
 initialAt is x = encode (getD is x 0)
 
@@ -34,6 +31,13 @@ eventAt ks ts as′ vs e = eventBytes (eventOf (getD ks e 0) (getD ts e 0) (getD
 
 unfoldable pub listingBytes : (initials kinds threads addresses values : List ℕ) → (m k : ℕ) → List ℕ
 listingBytes is ks ts as′ vs m k = run (initialAt is) m ++ (encode k ++ run (eventAt ks ts as′ vs) k)
+
+unfoldable pub linkAt : (classes froms tos : List ℕ) → ℕ → List ℕ
+linkAt xs as′ bs j = dependencyBytes (link (getD xs j 0) (getD as′ j 0) (getD bs j 0))
+
+-- the number of dependencies and they, in an edition that has them
+unfoldable pub linksBytes : (edition : ℕ) (classes froms tos : List ℕ) → ℕ → List ℕ
+linksBytes edition xs as′ bs i = cond (second edition) (encode i ++ run (linkAt xs as′ bs) i) []
 
 -- entry i of the write order of x
 unfoldable pub entryAt : List ℕ → (x i : ℕ) → List ℕ
@@ -86,8 +90,14 @@ mostNumber = widest
 abbrev pub mostTwo : ℕ
 mostTwo = mostNumber + mostNumber
 
+abbrev pub mostThree : ℕ
+mostThree = mostNumber + mostTwo
+
 abbrev pub mostEvent : ℕ
 mostEvent = mostTwo + mostTwo
+
+abbrev pub mostLinks : ℕ
+mostLinks = mostNumber + mostDependencies * mostThree
 
 abbrev pub mostRow : ℕ
 mostRow = mostEvents * mostTwo

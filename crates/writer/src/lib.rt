@@ -4,12 +4,12 @@ ghost use mathlib.Core.List.{[], _∷_, _++_};
 ghost use Prim.Native.Nat.{_+_, _*_, _≤_, _<_};
 ghost use lib.ListN.{length, getD};
 ghost use Rattle.number.specs.Number.{encode};
-ghost use Rattle.model.specs.Limits.{mostThreads, mostAddresses, mostEvents, mostName};
-ghost use Rattle.model.specs.Written.{eventBytes, recordOf};
+ghost use Rattle.model.specs.Limits.{mostThreads, mostAddresses, mostEvents, mostDependencies, mostName};
+ghost use Rattle.model.specs.Written.{eventBytes, dependencyBytes, recordOf};
 ghost use Rattle.model.specs.Answers.{put as putOf};
-ghost use Rattle.case.specs.Held.{eventOf, caseOf};
+ghost use Rattle.case.specs.Held.{eventOf, link, caseOf};
 ghost use Rattle.case.specs.Sound.{Sound};
-ghost use Rattle.writer.specs.Stages.{run, frontBytes, initialAt, eventAt, listingBytes, entryAt, writesOf, bitBytes, rowAt, pairs, orderAt, byteAt, nameBytes, restBytes, Room, Wrote, Size, mostNumber, mostTwo, mostEvent, mostRow, mostOrder};
+ghost use Rattle.writer.specs.Stages.{run, initialAt, eventAt, listingBytes, linkAt, linksBytes, entryAt, writesOf, bitBytes, rowAt, pairs, orderAt, byteAt, nameBytes, restBytes, Room, Wrote, Size, mostNumber, mostTwo, mostThree, mostEvent, mostLinks, mostRow, mostOrder};
 ghost use Rattle.writer.specs.Stored.{storedOf};
 use case::Case;
 
@@ -71,11 +71,11 @@ fn size_two(a: u32, b: u32) -> usize
     size_of(a) + size_of(b)
 }
 
-// Edition, threads and addresses.
-fn size_front(edition: u32, threads: u32, addresses: u32) -> usize
-    ensures { λ r. ⌜ Size (frontBytes edition threads addresses) (mostNumber + mostTwo) r ⌝ }
+// Three numbers.
+fn size_three(a: u32, b: u32, d: u32) -> usize
+    ensures { λ r. ⌜ Size (encode a ++ (encode b ++ encode d)) mostThree r ⌝ }
 {
-    size_of(edition) + size_two(threads, addresses)
+    size_of(a) + size_two(b, d)
 }
 
 // Kind, thread, and unless the kind is bare, address and value.
@@ -87,6 +87,13 @@ fn size_event(kind: u8, thread: u8, address: u8, value: u32) -> usize
         return front;
     }
     front + size_two(wide(address), value)
+}
+
+// A dependency's class and the events that it goes from and to.
+fn size_link(class: u8, from: u8, to: u8) -> usize
+    ensures { λ r. ⌜ Size (dependencyBytes (link class from to)) mostThree r ⌝ }
+{
+    size_three(wide(class), wide(from), wide(to))
 }
 
 // The pair a, b if it stands in a's row.
@@ -150,6 +157,56 @@ fn size_listing<'a>(
     let initials = size_initials(initial, m);
     let count = size_of(k as u32);
     initials + (count + size_events(kinds, owners, targets, values, k))
+}
+
+// The first i dependencies.
+fn size_links<'a>(
+    classes: &'a [u8; Case::MOST_DEPENDENCIES],
+    froms: &'a [u8; Case::MOST_DEPENDENCIES],
+    tos: &'a [u8; Case::MOST_DEPENDENCIES],
+    i: usize,
+) -> usize
+    requires { ⌜ i ≤ mostDependencies ⌝ }
+    ensures { λ r. ⌜ Size (run (linkAt (now (classes .entry)) (now (froms .entry)) (now (tos .entry))) i) (mostDependencies * mostThree) r ⌝ }
+{
+    let mut size: usize = 0;
+    let mut j: usize = 0;
+    while j < i {
+        size += size_link(classes[j], froms[j], tos[j]);
+        j += 1;
+    }
+    size
+}
+
+// The number of dependencies, and the dependencies.
+fn size_counted_links<'a>(
+    classes: &'a [u8; Case::MOST_DEPENDENCIES],
+    froms: &'a [u8; Case::MOST_DEPENDENCIES],
+    tos: &'a [u8; Case::MOST_DEPENDENCIES],
+    i: usize,
+) -> usize
+    requires { ⌜ i ≤ mostDependencies ⌝ }
+    ensures { λ r. ⌜ Size (encode i ++ run (linkAt (now (classes .entry)) (now (froms .entry)) (now (tos .entry))) i) mostLinks r ⌝ }
+{
+    let count = size_of(i as u32);
+    count + size_links(classes, froms, tos, i)
+}
+
+// The number of dependencies and they, in an edition that has them.
+fn size_dependencies<'a>(
+    edition: usize,
+    classes: &'a [u8; Case::MOST_DEPENDENCIES],
+    froms: &'a [u8; Case::MOST_DEPENDENCIES],
+    tos: &'a [u8; Case::MOST_DEPENDENCIES],
+    i: usize,
+) -> usize
+    requires { ⌜ i ≤ mostDependencies ⌝ }
+    ensures { λ r. ⌜ Size (linksBytes edition (now (classes .entry)) (now (froms .entry)) (now (tos .entry)) i) mostLinks r ⌝ }
+{
+    if case::is_second(edition) {
+        return size_counted_links(classes, froms, tos, i);
+    }
+    0
 }
 
 // The first n entries of the write order of x.
@@ -303,13 +360,13 @@ fn write_two(out: &mut [u8], at: usize, a: u32, b: u32) -> usize
     write_number(out, next, b)
 }
 
-// Edition, threads and addresses.
-fn write_front(out: &mut [u8], at: usize, edition: u32, threads: u32, addresses: u32) -> usize
-    requires { ⌜ Room (now out) at (frontBytes edition threads addresses) ⌝ }
-    ensures { λ r. ⌜ Wrote (now (out .entry)) at (frontBytes edition threads addresses) (now (out .exit)) r ⌝ }
+// Three numbers.
+fn write_three(out: &mut [u8], at: usize, a: u32, b: u32, d: u32) -> usize
+    requires { ⌜ Room (now out) at (encode a ++ (encode b ++ encode d)) ⌝ }
+    ensures { λ r. ⌜ Wrote (now (out .entry)) at (encode a ++ (encode b ++ encode d)) (now (out .exit)) r ⌝ }
 {
-    let next = write_number(out, at, edition);
-    write_two(out, next, threads, addresses)
+    let next = write_number(out, at, a);
+    write_two(out, next, b, d)
 }
 
 // Kind, thread, and unless the kind is bare, address and value.
@@ -322,6 +379,14 @@ fn write_event(out: &mut [u8], at: usize, kind: u8, thread: u8, address: u8, val
         return next;
     }
     write_two(out, next, wide(address), value)
+}
+
+// A dependency's class and the events that it goes from and to.
+fn write_link(out: &mut [u8], at: usize, class: u8, from: u8, to: u8) -> usize
+    requires { ⌜ Room (now out) at (dependencyBytes (link class from to)) ⌝ }
+    ensures { λ r. ⌜ Wrote (now (out .entry)) at (dependencyBytes (link class from to)) (now (out .exit)) r ⌝ }
+{
+    write_three(out, at, wide(class), wide(from), wide(to))
 }
 
 // The pair a, b if it stands in a's row.
@@ -407,6 +472,65 @@ fn write_listing<'a>(
     let after_initials = write_initials(out, at, initial, m);
     let after_count = write_number(out, after_initials, k as u32);
     write_events(out, after_count, kinds, owners, targets, values, k)
+}
+
+// The first i dependencies.
+fn write_links<'a>(
+    out: &mut [u8],
+    at: usize,
+    classes: &'a [u8; Case::MOST_DEPENDENCIES],
+    froms: &'a [u8; Case::MOST_DEPENDENCIES],
+    tos: &'a [u8; Case::MOST_DEPENDENCIES],
+    i: usize,
+) -> usize
+    requires { ⌜ i ≤ mostDependencies ⌝ }
+    requires { ⌜ Room (now out) at (run (linkAt (now classes) (now froms) (now tos)) i) ⌝ }
+    ensures { λ r. ⌜ Wrote (now (out .entry)) at (run (linkAt (now (classes .entry)) (now (froms .entry)) (now (tos .entry))) i) (now (out .exit)) r ⌝ }
+{
+    let mut place = at;
+    let mut j: usize = 0;
+    while j < i {
+        place = write_link(out, place, classes[j], froms[j], tos[j]);
+        j += 1;
+    }
+    place
+}
+
+// The number of dependencies, and the dependencies.
+fn write_counted_links<'a>(
+    out: &mut [u8],
+    at: usize,
+    classes: &'a [u8; Case::MOST_DEPENDENCIES],
+    froms: &'a [u8; Case::MOST_DEPENDENCIES],
+    tos: &'a [u8; Case::MOST_DEPENDENCIES],
+    i: usize,
+) -> usize
+    requires { ⌜ i ≤ mostDependencies ⌝ }
+    requires { ⌜ Room (now out) at (encode i ++ run (linkAt (now classes) (now froms) (now tos)) i) ⌝ }
+    ensures { λ r. ⌜ Wrote (now (out .entry)) at (encode i ++ run (linkAt (now (classes .entry)) (now (froms .entry)) (now (tos .entry))) i) (now (out .exit)) r ⌝ }
+{
+    let after_count = write_number(out, at, i as u32);
+    write_links(out, after_count, classes, froms, tos, i)
+}
+
+// The number of dependencies and they, in an edition that has them.
+fn write_dependencies<'a>(
+    out: &mut [u8],
+    at: usize,
+    edition: usize,
+    classes: &'a [u8; Case::MOST_DEPENDENCIES],
+    froms: &'a [u8; Case::MOST_DEPENDENCIES],
+    tos: &'a [u8; Case::MOST_DEPENDENCIES],
+    i: usize,
+) -> usize
+    requires { ⌜ i ≤ mostDependencies ⌝ }
+    requires { ⌜ Room (now out) at (linksBytes edition (now classes) (now froms) (now tos) i) ⌝ }
+    ensures { λ r. ⌜ Wrote (now (out .entry)) at (linksBytes edition (now (classes .entry)) (now (froms .entry)) (now (tos .entry)) i) (now (out .exit)) r ⌝ }
+{
+    if case::is_second(edition) {
+        return write_counted_links(out, at, classes, froms, tos, i);
+    }
+    at
 }
 
 // The first n entries of the write order of x.
@@ -608,7 +732,8 @@ pub fn size(c: Case) -> usize
     requires { ⌜ Sound c ⌝ }
     ensures { λ r. ⌜ r ≡ length (recordOf (caseOf c)) ⌝ }
 {
-    let front = size_front(c.edition as u32, c.threads as u32, c.addresses as u32);
+    let i = case::link_count(c.edition, c.dependencies);
+    let front = size_three(c.edition as u32, c.threads as u32, c.addresses as u32);
     let listing = size_listing(
         &c.initial,
         &c.kind,
@@ -618,6 +743,7 @@ pub fn size(c: Case) -> usize
         c.addresses,
         c.events,
     );
+    let links = size_dependencies(c.edition, &c.class, &c.from, &c.to, i);
     let rest = size_rest(
         &c.kind,
         &c.address,
@@ -629,7 +755,7 @@ pub fn size(c: Case) -> usize
         c.events,
         c.namelength,
     );
-    front + (listing + rest)
+    front + (listing + (links + rest))
 }
 
 // Writes the record of a case from the first byte on.
@@ -638,16 +764,17 @@ fn write_record(out: &mut [u8], c: Case) -> usize
     requires { ⌜ Room (now out) 0 (recordOf (caseOf c)) ⌝ }
     ensures { λ r. ⌜ Wrote (now (out .entry)) 0 (recordOf (caseOf c)) (now (out .exit)) r ⌝ }
 {
-    let after_front = write_front(
+    let i = case::link_count(c.edition, c.dependencies);
+    let place = write_three(
         out,
         0,
         c.edition as u32,
         c.threads as u32,
         c.addresses as u32,
     );
-    let after_listing = write_listing(
+    let place = write_listing(
         out,
-        after_front,
+        place,
         &c.initial,
         &c.kind,
         &c.thread,
@@ -656,9 +783,10 @@ fn write_record(out: &mut [u8], c: Case) -> usize
         c.addresses,
         c.events,
     );
+    let place = write_dependencies(out, place, c.edition, &c.class, &c.from, &c.to, i);
     write_rest(
         out,
-        after_listing,
+        place,
         &c.kind,
         &c.address,
         &c.writes,

@@ -8,7 +8,7 @@ pub const ENDS: u32 = 1;
 pub const FORM: u32 = 2;
 /// A number is outside its range.
 pub const RANGE: u32 = 3;
-/// A write order entry or a pair is not one that may stand there.
+/// A dependency, a write order entry or a pair is not one that may stand there.
 pub const MISPLACED: u32 = 4;
 /// Not a permutation of the case's labels.
 pub const PERMUTATION: u32 = 5;

@@ -1,21 +1,33 @@
 //! A case: one candidate execution.
 
 use crate::answer::{MISPLACED, RANGE};
-use crate::limits::{ADDRESSES, EDITION, EVENTS, NAME, THREADS, VALUE};
+use crate::limits::{
+    ADDRESSES, DEPENDENCIES, EDITIONS, EVENTS, FIRST, NAME, SECOND, THREADS, VALUE,
+};
+use std::fmt;
 
 #[derive(Clone, Copy, Debug, PartialEq, Eq)]
 pub enum Kind {
     Load,
     Store,
     Sync,
+    Lwsync,
 }
 
 impl Kind {
     /// Every kind, at its number.
-    pub const ALL: [Kind; 3] = [Kind::Load, Kind::Store, Kind::Sync];
+    pub const ALL: [Kind; 4] = [Kind::Load, Kind::Store, Kind::Sync, Kind::Lwsync];
+
+    /// How many of them an edition has: the first has no lwsync, which is the last.
+    pub fn count(edition: u32) -> usize {
+        match edition {
+            SECOND => Kind::ALL.len(),
+            _ => Kind::Lwsync as usize,
+        }
+    }
 }
 
-/// An event. A sync's address and value mean nothing and are 0.
+/// An event. A barrier's address and value mean nothing and are 0.
 #[derive(Clone, Copy, Debug, PartialEq, Eq)]
 pub struct Event {
     pub kind: Kind,
@@ -51,16 +63,96 @@ impl Event {
         }
     }
 
-    pub fn is_sync(&self) -> bool {
-        self.kind == Kind::Sync
+    pub fn lwsync(thread: usize) -> Event {
+        let kind = Kind::Lwsync;
+        Event {
+            kind,
+            ..Event::sync(thread)
+        }
+    }
+
+    /// Whether this is a sync or an lwsync.
+    pub fn is_barrier(&self) -> bool {
+        matches!(self.kind, Kind::Sync | Kind::Lwsync)
+    }
+
+    pub fn is_load(&self) -> bool {
+        self.kind == Kind::Load
+    }
+
+    pub fn is_store(&self) -> bool {
+        self.kind == Kind::Store
     }
 
     pub fn loads(&self, address: usize) -> bool {
-        self.kind == Kind::Load && self.address == address
+        self.is_load() && self.address == address
     }
 
     pub fn stores(&self, address: usize) -> bool {
-        self.kind == Kind::Store && self.address == address
+        self.is_store() && self.address == address
+    }
+
+    /// Whether this barrier orders an event before it and one after it. A sync orders any two; an
+    /// lwsync orders loads and stores, but not a store before a load.
+    pub fn orders(&self, earlier: &Event, later: &Event) -> bool {
+        let access = !earlier.is_barrier() && !later.is_barrier();
+        self.kind == Kind::Sync || access && !(earlier.is_store() && later.is_load())
+    }
+}
+
+/// How an event depends on a load.
+#[derive(Clone, Copy, Debug, PartialEq, Eq, PartialOrd, Ord)]
+pub enum Class {
+    Address,
+    Data,
+    Control,
+}
+
+impl Class {
+    /// Every class, at its number.
+    pub const ALL: [Class; 3] = [Class::Address, Class::Data, Class::Control];
+}
+
+/// Event `to` depends on load `from`. Dependencies rise by from, then by to, then by class.
+#[derive(Clone, Copy, Debug, PartialEq, Eq, PartialOrd, Ord)]
+pub struct Dependency {
+    pub from: usize,
+    pub to: usize,
+    pub class: Class,
+}
+
+/// Why a dependency may not stand where it does.
+#[derive(Clone, Copy, Debug, PartialEq, Eq)]
+pub enum Unfit {
+    FromNoLoad,
+    NotEarlier,
+    TwoThreads,
+    ToBarrier,
+    ToNoStore,
+    NotAbove,
+}
+
+impl Unfit {
+    pub const ALL: [Unfit; 6] = [
+        Unfit::FromNoLoad,
+        Unfit::NotEarlier,
+        Unfit::TwoThreads,
+        Unfit::ToBarrier,
+        Unfit::ToNoStore,
+        Unfit::NotAbove,
+    ];
+}
+
+impl fmt::Display for Unfit {
+    fn fmt(&self, f: &mut fmt::Formatter) -> fmt::Result {
+        f.write_str(match self {
+            Unfit::FromNoLoad => "only a load can be depended on",
+            Unfit::NotEarlier => "the load must be listed before what depends on it",
+            Unfit::TwoThreads => "both events must be of one thread",
+            Unfit::ToBarrier => "only a load or a store can depend on a load",
+            Unfit::ToNoStore => "only a store can depend on a load by data or control",
+            Unfit::NotAbove => "dependencies must rise by from, then by to, then by class",
+        })
     }
 }
 
@@ -134,6 +226,8 @@ pub struct Case {
     /// For each address, its first value.
     pub initial: Vec<u32>,
     pub events: Vec<Event>,
+    /// In the first edition this is spare room: nothing asks for it.
+    pub dependencies: Vec<Dependency>,
     /// For each address, its stores from first to last.
     pub write_orders: Vec<Vec<usize>>,
     /// For each thread, the order in which it sees events.
@@ -142,12 +236,13 @@ pub struct Case {
 }
 
 impl Case {
-    /// No events, every initial value 0.
+    /// Of the first edition, no events, every initial value 0.
     pub fn empty(threads: usize, addresses: usize) -> Case {
         Case {
-            edition: EDITION,
+            edition: FIRST,
             initial: vec![0; addresses],
             events: Vec::new(),
+            dependencies: Vec::new(),
             write_orders: vec![Vec::new(); addresses],
             orders: vec![Order::new(); threads],
             name: Vec::new(),
@@ -168,11 +263,51 @@ impl Case {
         all.filter(|&e| self.events[e].stores(address)).collect()
     }
 
+    pub fn has_lwsync(&self) -> bool {
+        self.events.iter().any(|event| event.kind == Kind::Lwsync)
+    }
+
+    /// The dependencies that the case's edition lets it have.
+    pub fn dependencies(&self) -> &[Dependency] {
+        match self.edition {
+            SECOND => &self.dependencies,
+            _ => &[],
+        }
+    }
+
+    /// Whether one event depends on another.
+    pub fn depends(&self, from: usize, to: usize) -> bool {
+        let mut all = self.dependencies().iter();
+        all.any(|d| (d.from, d.to) == (from, to))
+    }
+
+    /// Why a dependency of two events of the case may not stand behind another one, if it may not.
+    pub fn unfit(&self, dependency: Dependency, last: Option<Dependency>) -> Option<Unfit> {
+        let Dependency { from, to, class } = dependency;
+        let (load, other) = (&self.events[from], &self.events[to]);
+        if !load.is_load() {
+            Some(Unfit::FromNoLoad)
+        } else if from >= to {
+            Some(Unfit::NotEarlier)
+        } else if load.thread != other.thread {
+            Some(Unfit::TwoThreads)
+        } else if other.is_barrier() {
+            Some(Unfit::ToBarrier)
+        } else if class != Class::Address && !other.is_store() {
+            Some(Unfit::ToNoStore)
+        } else if last.is_some_and(|last| dependency <= last) {
+            Some(Unfit::NotAbove)
+        } else {
+            None
+        }
+    }
+
     /// 0, or the number that the reader would give for the first bad field.
     pub fn fault(&self) -> u32 {
         let faults = [
             self.counts_fault(),
             self.events_fault(),
+            self.dependencies_fault(),
             self.write_orders_fault(),
             range_fault(self.name.len() <= NAME),
         ];
@@ -180,7 +315,7 @@ impl Case {
     }
 
     fn counts_fault(&self) -> u32 {
-        let fits = self.edition == EDITION
+        let fits = EDITIONS.contains(&self.edition)
             && (1..=THREADS).contains(&self.threads())
             && (1..=ADDRESSES).contains(&self.addresses())
             && self.initial.iter().all(|&v| v <= VALUE)
@@ -190,10 +325,29 @@ impl Case {
 
     fn events_fault(&self) -> u32 {
         let fits = |e: &Event| {
-            let access = e.is_sync() || (e.address < self.addresses() && e.value <= VALUE);
-            e.thread < self.threads() && access
+            let kind = (e.kind as usize) < Kind::count(self.edition);
+            let access = e.is_barrier() || (e.address < self.addresses() && e.value <= VALUE);
+            kind && e.thread < self.threads() && access
         };
         range_fault(self.events.iter().all(fits))
+    }
+
+    fn dependencies_fault(&self) -> u32 {
+        let all = self.dependencies();
+        if all.len() > DEPENDENCIES {
+            return RANGE;
+        }
+        let mut last = None;
+        for &dependency in all {
+            if dependency.from.max(dependency.to) >= self.events.len() {
+                return RANGE;
+            }
+            if self.unfit(dependency, last).is_some() {
+                return MISPLACED;
+            }
+            last = Some(dependency);
+        }
+        0
     }
 
     /// A list of too few or too many entries is 4: an entry is missing, or one is listed twice.

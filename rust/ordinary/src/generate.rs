@@ -7,16 +7,19 @@ mod sparse;
 pub use damage::damaged;
 pub use sparse::{sparse, Duty};
 
-use crate::case::{Case, Kind, Order};
-use crate::limits::{ADDRESSES, NAME, THREADS};
+use crate::case::{Case, Event, Kind, Order};
+use crate::limits::{
+    ADDRESSES, DEPENDENCIES, EDITIONS, EVENTS, FIRST, NAME, SECOND, THREADS, VALUE,
+};
 use crate::random::Random;
 use crate::write;
-use program::{any_program, interleaving, loads, program, value_in, write_in};
+use program::{any_program, good_dependencies, interleaving, loads, program, reordered};
+use program::{value_in, write_in};
 
 /// An accepted execution of `count` events with every thread and address in use: all threads see
 /// all events in one order.
-pub fn full(random: &mut Random, count: usize) -> Case {
-    let mut case = program(random, THREADS, ADDRESSES, count, 6);
+pub fn full(random: &mut Random, edition: u32, count: usize) -> Case {
+    let mut case = program(random, edition, THREADS, ADDRESSES, count, 6);
     one_order(random, &mut case);
     case
 }
@@ -30,6 +33,7 @@ pub fn sequential(random: &mut Random) -> Case {
 
 fn one_order(random: &mut Random, case: &mut Case) {
     let sequence = interleaving(random, case);
+    let sequence = reordered(random, case, &sequence, false);
     write_in(case, &sequence);
     for l in loads(case) {
         case.events[l].value = value_in(case, &sequence, l);
@@ -38,13 +42,14 @@ fn one_order(random: &mut Random, case: &mut Case) {
 }
 
 /// An execution whose threads see different orders, their own loads reading from these. With few
-/// syncs, most are accepted under PPCw.
+/// barriers, most are accepted under PPCw, but for some that do not heed their dependencies.
 pub fn apart(random: &mut Random) -> Case {
     let mut case = any_program(random, 20);
     let sequence = interleaving(random, &case);
     write_in(&mut case, &sequence);
+    let loose = random.once_in(4);
     for p in 0..case.threads() {
-        let own = reordered(random, &case, &sequence);
+        let own = reordered(random, &case, &sequence, loose);
         for l in loads(&case) {
             if case.events[l].thread == p {
                 case.events[l].value = value_in(&case, &own, l);
@@ -55,28 +60,14 @@ pub fn apart(random: &mut Random) -> Case {
     case
 }
 
-/// The sequence after some exchanges that keep program order and the order of stores to an address.
-fn reordered(random: &mut Random, case: &Case, sequence: &[usize]) -> Vec<usize> {
-    let mut new = sequence.to_vec();
-    for _ in 0..random.below(3 * new.len() + 1) {
-        let i = random.below(new.len());
-        let (a, b) = (new[i], new[(i + 1) % new.len()]);
-        let (first, second) = (case.events[a], case.events[b]);
-        let both_store = first.kind == Kind::Store && second.stores(first.address);
-        if i + 1 < new.len() && first.thread != second.thread && !both_store {
-            new.swap(i, i + 1);
-        }
-    }
-    new
-}
-
 /// A few events with random values and orders.
 pub fn tiny(random: &mut Random) -> Case {
+    let edition = random.pick(&EDITIONS);
     let threads = random.from_to(1, 3.min(THREADS));
     let addresses = random.from_to(1, 2.min(ADDRESSES));
     let count = random.below(6);
-    let mut case = program(random, threads, addresses, count, 4);
-    for event in case.events.iter_mut().filter(|e| !e.is_sync()) {
+    let mut case = program(random, edition, threads, addresses, count, 4);
+    for event in case.events.iter_mut().filter(|e| !e.is_barrier()) {
         event.value = random.below(3) as u32;
     }
     for address in 0..addresses {
@@ -127,7 +118,7 @@ fn change(random: &mut Random, case: &mut Case) {
     let (a, b) = (random.below(count), random.below(count));
     let p = random.below(case.threads());
     let address = random.below(case.addresses());
-    match random.below(6) {
+    match random.below(8) {
         0 => case.orders[p].remove(a, b),
         1 => case.orders[p].insert(a, b),
         2 => {
@@ -136,13 +127,66 @@ fn change(random: &mut Random, case: &mut Case) {
         }
         3 => random.shuffle(&mut case.write_orders[address]),
         4 => case.initial[address] = random.below(3) as u32,
-        _ => {
+        5 => {
             let value = case.events[b].value;
-            if !case.events[a].is_sync() {
+            if !case.events[a].is_barrier() {
                 case.events[a].value = value;
             }
         }
+        6 => forget_own(case, a),
+        _ if case.edition == FIRST => {}
+        _ => change_of_second(random, case, a),
     }
+}
+
+/// The thread of event a has no pair of it any more.
+fn forget_own(case: &mut Case, a: usize) {
+    let order = &mut case.orders[case.events[a].thread];
+    for b in 0..case.events.len() {
+        order.remove(a, b);
+        order.remove(b, a);
+    }
+}
+
+/// The kind of event a if it is a barrier, or else the dependencies.
+fn change_of_second(random: &mut Random, case: &mut Case, a: usize) {
+    let kind = &mut case.events[a].kind;
+    match *kind {
+        Kind::Sync => *kind = Kind::Lwsync,
+        Kind::Lwsync => *kind = Kind::Sync,
+        _ => {
+            let mut all = good_dependencies(case);
+            random.shuffle(&mut all);
+            all.truncate(random.below(DEPENDENCIES + 1));
+            all.sort();
+            case.dependencies = all;
+        }
+    }
+}
+
+/// The greatest record of an edition: every number as long as it gets, every pair in every order,
+/// and in the second edition as many dependencies as there may be, from as few loads as that takes.
+pub fn greatest(edition: u32) -> Case {
+    let mut case = Case::empty(THREADS, ADDRESSES);
+    case.edition = edition;
+    case.initial.fill(VALUE);
+    case.events = vec![Event::store(0, 0, VALUE); EVENTS];
+    if edition == SECOND {
+        let mut loads = 0;
+        while good_dependencies(&case).len() < DEPENDENCIES {
+            case.events[loads].kind = Kind::Load;
+            loads += 1;
+        }
+        case.dependencies = good_dependencies(&case);
+        case.dependencies.truncate(DEPENDENCIES);
+    }
+    case.write_orders[0] = case.stores_to(0);
+    let all: Vec<usize> = (0..EVENTS).collect();
+    for (a, b) in all.iter().flat_map(|&a| all.iter().map(move |&b| (a, b))) {
+        case.orders.iter_mut().for_each(|order| order.insert(a, b));
+    }
+    case.name = vec![0; NAME];
+    case
 }
 
 /// Any of the kinds of case above.

@@ -59,6 +59,26 @@ pub fn printed_verdict(case: &Case, model: u64) -> u32 {
     lowest_broken(case, model, false)
 }
 
+/// The same if every lwsync were a sync.
+pub fn verdict_with_syncs(case: &Case, model: u64) -> u32 {
+    let mut case = case.clone();
+    let events = case.events.iter_mut();
+    for event in events.filter(|event| event.kind == Kind::Lwsync) {
+        event.kind = Kind::Sync;
+    }
+    verdict(&case, model)
+}
+
+/// The same without dependencies.
+pub fn verdict_without_dependencies(case: &Case, model: u64) -> u32 {
+    let dependencies = Vec::new();
+    let case = Case {
+        dependencies,
+        ..case.clone()
+    };
+    verdict(&case, model)
+}
+
 fn lowest_broken(case: &Case, model: u64, sees_own: bool) -> u32 {
     let judged = Judged {
         case,
@@ -140,16 +160,16 @@ impl Judged<'_> {
 
     /// The loads that rules 15 and 16 speak of.
     fn applicable_loads(&self, p: usize) -> impl Iterator<Item = usize> + '_ {
-        let loads = self.events().filter(|&e| self.event(e).kind == Kind::Load);
+        let loads = self.events().filter(|&e| self.event(e).is_load());
         loads.filter(move |&l| match self.model {
             PPCW => self.event(l).thread == p,
             _ => self.sees(p, l),
         })
     }
 
-    /// The syncs of thread p.
+    /// The syncs and lwsyncs of thread p.
     fn barriers(&self, p: usize) -> impl Iterator<Item = usize> + '_ {
-        self.own(p).filter(|&f| self.event(f).is_sync())
+        self.own(p).filter(|&f| self.event(f).is_barrier())
     }
 
     fn irreflexive(&self, p: usize) -> bool {
@@ -170,7 +190,10 @@ impl Judged<'_> {
     fn program_order(&self, p: usize) -> bool {
         let kept = |a, b| {
             let (first, second) = (self.event(a), self.event(b));
-            first.is_sync() || second.is_sync() || first.address == second.address
+            first.is_barrier()
+                || second.is_barrier()
+                || first.address == second.address
+                || self.case.depends(a, b)
         };
         let mut pairs = self
             .own(p)
@@ -212,9 +235,8 @@ impl Judged<'_> {
 
     fn barrier_orders(&self, p: usize) -> bool {
         self.barriers(p).all(|f| {
-            let later = self.own(p).filter(|&e| self.before(p, f, e));
-            self.earlier(p, f)
-                .all(|e| later.clone().all(|d| self.before_everywhere(e, d)))
+            let later = self.own(p).filter(|&d| self.before(p, f, d));
+            self.orders(p, f, later)
         })
     }
 
@@ -222,23 +244,25 @@ impl Judged<'_> {
         self.barriers(p).all(|f| {
             let stores = self
                 .own(p)
-                .filter(|&s| self.event(s).kind == Kind::Store && self.before(p, f, s));
+                .filter(|&s| self.event(s).is_store() && self.before(p, f, s));
             let mut readers = stores.flat_map(|s| self.readers(s));
-            readers.all(|l| self.orders_after(p, f, l))
+            readers.all(|l| {
+                let home = self.event(l).thread;
+                let later = self.events().filter(|&d| self.before(home, l, d));
+                self.orders(p, f, later)
+            })
         })
     }
 
-    /// Whether all that p sees before f comes, everywhere, before all that l's thread sees after l.
-    fn orders_after(&self, p: usize, f: usize, l: usize) -> bool {
-        let home = self.event(l).thread;
-        let after = self.events().filter(|&d| self.before(home, l, d));
-        self.earlier(p, f)
-            .all(|e| after.clone().all(|d| self.before_everywhere(e, d)))
-    }
-
-    /// The events before f in p's order.
-    fn earlier(&self, p: usize, f: usize) -> impl Iterator<Item = usize> + '_ {
-        self.events().filter(move |&e| self.before(p, e, f))
+    /// Whether all that p sees before barrier f comes, everywhere, before those of the later events
+    /// that f orders behind it.
+    fn orders(&self, p: usize, f: usize, later: impl Iterator<Item = usize> + Clone) -> bool {
+        let asked = |e, d| self.event(f).orders(self.event(e), self.event(d));
+        let mut earlier = self.events().filter(|&e| self.before(p, e, f));
+        earlier.all(|e| {
+            let mut later = later.clone();
+            later.all(|d| !asked(e, d) || self.before_everywhere(e, d))
+        })
     }
 
     /// The loads that read from store s.

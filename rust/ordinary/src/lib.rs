@@ -19,4 +19,4 @@ pub mod text;
 pub mod write;
 
 pub use answer::Answer;
-pub use case::{Case, Event, Kind, Order};
+pub use case::{Case, Class, Dependency, Event, Kind, Order};

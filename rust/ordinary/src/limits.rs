@@ -1,21 +1,27 @@
 //! How much a case may hold. Every limit stands here and nowhere else.
 
+use crate::case::{Class, Kind};
+
+/// The first edition: no lwsyncs and no dependencies.
+pub const FIRST: u32 = 1;
+/// The second edition, which has both.
+pub const SECOND: u32 = 2;
+/// Every edition.
+pub const EDITIONS: [u32; 2] = [FIRST, SECOND];
 /// Most threads.
 pub const THREADS: usize = 4;
 /// Most addresses.
 pub const ADDRESSES: usize = 4;
 /// Most events.
 pub const EVENTS: usize = 24;
+/// Most dependencies.
+pub const DEPENDENCIES: usize = 96;
 /// Greatest value.
 pub const VALUE: u32 = 65_535;
 /// Most bytes of a name.
 pub const NAME: usize = 32;
 /// Most groups of seven bits in a number.
 pub const GROUPS: usize = 3;
-/// The only edition.
-pub const EDITION: u32 = 1;
-/// The greatest record, in bytes.
-pub const RECORD: usize = 4_833;
 
 /// Labels that a permutation moves: threads or addresses.
 pub const LABELS: usize = if THREADS > ADDRESSES {
@@ -23,3 +29,40 @@ pub const LABELS: usize = if THREADS > ADDRESSES {
 } else {
     ADDRESSES
 };
+
+/// The greatest record of an edition, in bytes.
+pub const fn most_bytes(edition: u32) -> usize {
+    let head = size(edition as usize) + size(THREADS) + size(ADDRESSES);
+    let value = size(VALUE as usize);
+    let event = size(Kind::ALL.len() - 1) + size(THREADS - 1) + size(ADDRESSES - 1) + value;
+    let order = size(EVENTS * EVENTS) + EVENTS * EVENTS * 2 * size(EVENTS - 1);
+    head + ADDRESSES * value
+        + size(EVENTS)
+        + EVENTS * event
+        + links(edition)
+        + THREADS * order
+        + size(NAME)
+        + NAME
+}
+
+/// The most bytes of dependencies and write orders.
+const fn links(edition: u32) -> usize {
+    if edition == FIRST {
+        return EVENTS * size(EVENTS - 1);
+    }
+    // A dependency takes more bytes than an entry of a write order, so all of them are there. They
+    // start at loads, which stand in no write order.
+    let from_one_load = Class::ALL.len() * (EVENTS - 1);
+    let loads = DEPENDENCIES.div_ceil(from_one_load);
+    let dependency = size(Class::ALL.len() - 1) + 2 * size(EVENTS - 1);
+    size(DEPENDENCIES) + DEPENDENCIES * dependency + (EVENTS - loads) * size(EVENTS - 1)
+}
+
+/// The bytes of a number, seven bits to a byte.
+const fn size(number: usize) -> usize {
+    if number < 128 {
+        1
+    } else {
+        1 + size(number / 128)
+    }
+}

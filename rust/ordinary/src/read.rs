@@ -1,8 +1,8 @@
 //! Bytes to a case.
 
 use crate::answer::{Answer, Refusal, ENDS, FORM, MISPLACED, RANGE};
-use crate::case::{Case, Event, Kind, Order};
-use crate::limits::{ADDRESSES, EDITION, EVENTS, GROUPS, NAME, THREADS, VALUE};
+use crate::case::{Case, Class, Dependency, Event, Kind, Order, Unfit};
+use crate::limits::{ADDRESSES, DEPENDENCIES, EVENTS, FIRST, GROUPS, NAME, SECOND, THREADS, VALUE};
 
 /// A case, and how many bytes its record takes.
 #[derive(Clone, Debug, PartialEq, Eq)]
@@ -13,10 +13,17 @@ pub struct Reading {
 
 /// Reads the record at the front of the bytes.
 pub fn read(bytes: &[u8]) -> Result<Reading, Refusal> {
-    let mut reader = Reader { bytes, place: 0 };
+    let mut reader = Reader::new(bytes);
     let case = reader.case()?;
     let length = reader.place;
     Ok(Reading { case, length })
+}
+
+/// Why a dependency is refused with 4, where that ends the reading.
+pub fn unfit_dependency(bytes: &[u8]) -> Option<Unfit> {
+    let mut reader = Reader::new(bytes);
+    reader.case().err()?;
+    reader.unfit
 }
 
 /// What reading the bytes answers.
@@ -38,9 +45,19 @@ pub fn name(bytes: &[u8]) -> &[u8] {
 struct Reader<'a> {
     bytes: &'a [u8],
     place: usize,
+    /// Why a dependency was refused with 4.
+    unfit: Option<Unfit>,
 }
 
 impl Reader<'_> {
+    fn new(bytes: &[u8]) -> Reader<'_> {
+        Reader {
+            bytes,
+            place: 0,
+            unfit: None,
+        }
+    }
+
     /// A number from `least` to `most`.
     fn number(&mut self, least: u32, most: u32) -> Result<u32, Refusal> {
         let start = self.place;
@@ -71,13 +88,20 @@ impl Reader<'_> {
         Ok(self.number(least as u32, most as u32)? as usize)
     }
 
-    /// A label below `count`, which is above 0.
+    /// A label below `count`; below 0 there is none.
     fn below(&mut self, count: usize) -> Result<usize, Refusal> {
-        self.count(0, count - 1)
+        let place = self.place;
+        match self.number(0, u32::MAX)? as usize {
+            label if label < count => Ok(label),
+            _ => Err(Refusal {
+                number: RANGE,
+                place,
+            }),
+        }
     }
 
     fn case(&mut self) -> Result<Case, Refusal> {
-        let edition = self.number(EDITION, EDITION)?;
+        let edition = self.number(FIRST, SECOND)?;
         let threads = self.count(1, THREADS)?;
         let addresses = self.count(1, ADDRESSES)?;
         let mut case = Case::empty(threads, addresses);
@@ -86,8 +110,11 @@ impl Reader<'_> {
             *value = self.number(0, VALUE)?;
         }
         for _ in 0..self.count(0, EVENTS)? {
-            let event = self.event(threads, addresses)?;
+            let event = self.event(&case)?;
             case.events.push(event);
+        }
+        if edition == SECOND {
+            case.dependencies = self.dependencies(&case)?;
         }
         for address in 0..addresses {
             case.write_orders[address] = self.write_order(&case, address)?;
@@ -99,20 +126,37 @@ impl Reader<'_> {
         Ok(case)
     }
 
-    fn event(&mut self, threads: usize, addresses: usize) -> Result<Event, Refusal> {
-        let kind = Kind::ALL[self.below(Kind::ALL.len())?];
-        let thread = self.below(threads)?;
-        if kind == Kind::Sync {
-            return Ok(Event::sync(thread));
-        }
-        let address = self.below(addresses)?;
-        let value = self.number(0, VALUE)?;
-        Ok(Event {
+    fn event(&mut self, case: &Case) -> Result<Event, Refusal> {
+        let kind = Kind::ALL[self.below(Kind::count(case.edition))?];
+        let mut event = Event {
             kind,
-            thread,
-            address,
-            value,
-        })
+            ..Event::sync(self.below(case.threads())?)
+        };
+        if !event.is_barrier() {
+            event.address = self.below(case.addresses())?;
+            event.value = self.number(0, VALUE)?;
+        }
+        Ok(event)
+    }
+
+    fn dependencies(&mut self, case: &Case) -> Result<Vec<Dependency>, Refusal> {
+        let mut listed = Vec::new();
+        for _ in 0..self.count(0, DEPENDENCIES)? {
+            let place = self.place;
+            let class = Class::ALL[self.below(Class::ALL.len())?];
+            let from = self.below(case.events.len())?;
+            let to = self.below(case.events.len())?;
+            let dependency = Dependency { from, to, class };
+            self.unfit = case.unfit(dependency, listed.last().copied());
+            if self.unfit.is_some() {
+                return Err(Refusal {
+                    number: MISPLACED,
+                    place,
+                });
+            }
+            listed.push(dependency);
+        }
+        Ok(listed)
     }
 
     fn write_order(&mut self, case: &Case, address: usize) -> Result<Vec<usize>, Refusal> {

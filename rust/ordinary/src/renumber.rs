@@ -6,13 +6,14 @@ use crate::permutation::{fits, images, Images};
 use crate::read::read;
 use crate::write;
 
-/// The case with threads renumbered by `q` and addresses by `r`, which fit it.
+/// The case with threads renumbered by `q` and addresses by `r`, which fit it. Events keep their
+/// numbers, so dependencies stay as they are.
 pub fn relabel(case: &Case, q: u64, r: u64) -> Case {
     let (threads, addresses) = (images(q), images(r));
     let mut new = case.clone();
     for event in &mut new.events {
         event.thread = threads[event.thread];
-        if !event.is_sync() {
+        if !event.is_barrier() {
             event.address = addresses[event.address];
         }
     }

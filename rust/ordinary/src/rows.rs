@@ -3,15 +3,16 @@
 //! It is the benchmark's yardstick: ordinary optimised Rust.
 
 use crate::answer::{Answer, Refusal, ENDS, FORM, MISPLACED, MODEL, RANGE};
-use crate::case::Kind;
+use crate::case::{Class, Kind};
 use crate::judge::{PPCS, PPCW};
-use crate::limits::{ADDRESSES, EDITION, EVENTS, GROUPS, NAME, THREADS, VALUE};
+use crate::limits::{ADDRESSES, DEPENDENCIES, EVENTS, FIRST, GROUPS, NAME, SECOND, THREADS, VALUE};
 
 type Set = u64;
 
 const LOAD: u8 = Kind::Load as u8;
 const STORE: u8 = Kind::Store as u8;
 const SYNC: u8 = Kind::Sync as u8;
+const ADDRESS: usize = Class::Address as usize;
 
 /// An order: for each event, the set of those after it.
 type Rows = [Set; EVENTS];
@@ -31,6 +32,8 @@ pub struct Case {
     count: usize,
     initial: [u32; ADDRESSES],
     events: [Event; EVENTS],
+    /// For each event, the set of those that depend on it.
+    dependents: Rows,
     /// For each address, its stores, and how many.
     written: [[u8; EVENTS]; ADDRESSES],
     stores: [usize; ADDRESSES],
@@ -46,6 +49,7 @@ impl Case {
             count: 0,
             initial: [0; ADDRESSES],
             events: [Event::default(); EVENTS],
+            dependents: [0; EVENTS],
             written: [[0; EVENTS]; ADDRESSES],
             stores: [0; ADDRESSES],
             after: [[0; EVENTS]; THREADS],
@@ -63,13 +67,16 @@ impl Case {
 pub fn read(bytes: &[u8]) -> Result<Case, Refusal> {
     let mut reader = Reader { bytes, place: 0 };
     let mut case = Case::new();
-    reader.number(EDITION, EDITION)?;
+    let edition = reader.number(FIRST, SECOND)?;
     case.threads = reader.number(1, THREADS as u32)? as usize;
     case.addresses = reader.number(1, ADDRESSES as u32)? as usize;
     for value in &mut case.initial[..case.addresses] {
         *value = reader.number(0, VALUE)?;
     }
-    reader.events(&mut case)?;
+    reader.events(&mut case, Kind::count(edition))?;
+    if edition == SECOND {
+        reader.dependencies(&mut case)?;
+    }
     reader.write_orders(&mut case)?;
     for thread in 0..case.threads {
         reader.order(&mut case.after[thread], case.count)?;
@@ -121,23 +128,52 @@ impl Reader<'_> {
         refuse(FORM, self.place)
     }
 
+    /// A number below `count`; below 0 there is none.
     #[inline(always)]
     fn below(&mut self, count: usize) -> Result<usize, Refusal> {
-        Ok(self.number(0, count as u32 - 1)? as usize)
+        let place = self.place;
+        match self.number(0, u32::MAX)? as usize {
+            number if number < count => Ok(number),
+            _ => refuse(RANGE, place),
+        }
     }
 
-    fn events(&mut self, case: &mut Case) -> Result<(), Refusal> {
+    fn events(&mut self, case: &mut Case, kinds: usize) -> Result<(), Refusal> {
         case.count = self.number(0, EVENTS as u32)? as usize;
         for event in &mut case.events[..case.count] {
-            event.kind = self.below(Kind::ALL.len())? as u8;
+            event.kind = self.below(kinds)? as u8;
             event.thread = self.below(case.threads)? as u8;
-            if event.kind != SYNC {
+            if matches!(event.kind, LOAD | STORE) {
                 event.address = self.below(case.addresses)? as u8;
                 event.value = self.number(0, VALUE)?;
             }
             if event.kind == STORE {
                 case.stores[event.address as usize] += 1;
             }
+        }
+        Ok(())
+    }
+
+    fn dependencies(&mut self, case: &mut Case) -> Result<(), Refusal> {
+        let count = self.number(0, DEPENDENCIES as u32)?;
+        let mut least = 0;
+        for _ in 0..count {
+            let place = self.place;
+            let class = self.below(Class::ALL.len())?;
+            let from = self.below(case.count)?;
+            let to = self.below(case.count)?;
+            let (load, other) = (&case.events[from], &case.events[to]);
+            let rank = (from * EVENTS + to) * Class::ALL.len() + class;
+            let good = load.kind == LOAD
+                && from < to
+                && load.thread == other.thread
+                && (other.kind == STORE || class == ADDRESS && other.kind == LOAD)
+                && rank >= least;
+            if !good {
+                return refuse(MISPLACED, place);
+            }
+            least = rank + 1;
+            case.dependents[from] |= 1 << to;
         }
         Ok(())
     }
@@ -234,7 +270,8 @@ struct Judged<'a> {
     stores_to: [Set; ADDRESSES],
     loads: Set,
     stores: Set,
-    syncs: Set,
+    /// Syncs and lwsyncs.
+    barriers: Set,
 }
 
 impl<'a> Judged<'a> {
@@ -248,7 +285,7 @@ impl<'a> Judged<'a> {
             stores_to: [0; ADDRESSES],
             loads: 0,
             stores: 0,
-            syncs: 0,
+            barriers: 0,
         };
         judged.sort_events();
         for p in 0..case.threads {
@@ -267,7 +304,7 @@ impl<'a> Judged<'a> {
                     self.stores |= bit;
                     self.stores_to[event.address as usize] |= bit;
                 }
-                _ => self.syncs |= bit,
+                _ => self.barriers |= bit,
             }
         }
     }
@@ -321,15 +358,16 @@ impl<'a> Judged<'a> {
 
     fn program_order(&self, p: usize) -> bool {
         let mut same = [0; ADDRESSES];
-        for e in bits(self.own[p] & !self.syncs) {
+        for e in bits(self.own[p] & !self.barriers) {
             same[self.case.events[e].address as usize] |= 1 << e;
         }
         bits(self.own[p]).all(|e| {
-            let kept = match self.case.events[e].kind {
-                SYNC => self.own[p],
-                _ => self.own[p] & self.syncs | same[self.case.events[e].address as usize],
+            let event = &self.case.events[e];
+            let kept = match event.kind {
+                LOAD | STORE => self.own[p] & self.barriers | same[event.address as usize],
+                _ => self.own[p],
             };
-            let later = kept & !(((1 << e) - 1) | 1 << e);
+            let later = kept & !(((1 << e) - 1) | 1 << e) | self.case.dependents[e];
             later & !self.case.after[p][e] == 0
         })
     }
@@ -374,19 +412,29 @@ impl<'a> Judged<'a> {
         })
     }
 
-    /// Whether everything before f in p's order comes before all of `later` in every order.
+    /// Whether everything before barrier f in p's order comes, in every order, before those of
+    /// `later` that f orders behind it.
     fn everywhere(&self, p: usize, f: usize, later: Set) -> bool {
+        if self.case.events[f].kind == SYNC {
+            return self.all_before(self.before[p][f], later);
+        }
+        self.all_before(self.before[p][f] & self.loads, later & !self.barriers)
+            && self.all_before(self.before[p][f] & self.stores, later & self.stores)
+    }
+
+    /// Whether all of `earlier` comes before all of `later` in every order.
+    fn all_before(&self, earlier: Set, later: Set) -> bool {
         let orders = &self.case.after[..self.case.threads];
-        bits(self.before[p][f]).all(|e| orders.iter().all(|after| later & !after[e] == 0))
+        bits(earlier).all(|e| orders.iter().all(|after| later & !after[e] == 0))
     }
 
     fn barrier_orders(&self, p: usize) -> bool {
-        bits(self.own[p] & self.syncs)
+        bits(self.own[p] & self.barriers)
             .all(|f| self.everywhere(p, f, self.case.after[p][f] & self.own[p]))
     }
 
     fn barrier_orders_readers(&self, p: usize) -> bool {
-        bits(self.own[p] & self.syncs).all(|f| {
+        bits(self.own[p] & self.barriers).all(|f| {
             let stores = self.case.after[p][f] & self.own[p] & self.stores;
             let later = bits(self.loads)
                 .filter(|&l| self.source(l) & stores != 0)

@@ -1,8 +1,14 @@
 //! How often each number came up.
 
+use crate::case::Unfit;
 use crate::judge::{PPCS, PPCW, RULES};
+use crate::limits::{EDITIONS, FIRST, SECOND};
+use crate::read;
 use std::collections::BTreeMap;
 use std::fmt;
+
+/// The heading of refused dependencies, by why they may not stand where they do.
+const UNFIT: &str = "unfit dependencies";
 
 /// Counts under a heading each, as a model's name.
 #[derive(Default)]
@@ -14,6 +20,13 @@ impl Tally {
     pub fn add(&mut self, heading: &'static str, number: u32) {
         let row = self.times.entry(heading).or_default();
         *row.entry(number).or_default() += 1;
+    }
+
+    /// Counts the dependency that the bytes are refused for with 4, if there is one.
+    pub fn add_unfit(&mut self, bytes: &[u8]) {
+        if let Some(why) = read::unfit_dependency(bytes) {
+            self.add(UNFIT, why as u32);
+        }
     }
 
     pub fn times(&self, heading: &str, number: u32) -> usize {
@@ -29,10 +42,18 @@ impl Tally {
         }
     }
 
-    /// Fails where judging gave one of its numbers less than `least` times under a model.
+    /// Fails where dependencies were refused for a reason less than `least` times.
+    pub fn assert_unfit(&self, least: usize) {
+        self.assert_each(UNFIT, Unfit::ALL.map(|why| why as u32), least);
+    }
+
+    /// Fails where judging gave one of its numbers less than `least` times for an edition and a
+    /// model.
     pub fn assert_judged(&self, least: usize) {
-        for model in [PPCW, PPCS] {
-            self.assert_each(model_name(model), (0..=4).chain(RULES), least);
+        for edition in EDITIONS {
+            for model in [PPCW, PPCS] {
+                self.assert_each(heading(edition, model), (0..=4).chain(RULES), least);
+            }
         }
     }
 }
@@ -55,5 +76,34 @@ pub fn model_name(model: u64) -> &'static str {
         PPCW => "PPCw",
         PPCS => "PPCs",
         _ => "other models",
+    }
+}
+
+pub fn edition_name(edition: u32) -> &'static str {
+    match edition {
+        FIRST => "edition 1",
+        SECOND => "edition 2",
+        _ => "no edition",
+    }
+}
+
+/// The edition that the bytes state, if it is one that takes a byte; otherwise 0.
+pub fn stated_edition(bytes: &[u8]) -> u32 {
+    let stated = bytes.first().map_or(0, |&byte| u32::from(byte));
+    if EDITIONS.contains(&stated) {
+        stated
+    } else {
+        0
+    }
+}
+
+/// The heading of what judging gives for an edition under a model.
+pub fn heading(edition: u32, model: u64) -> &'static str {
+    match (edition, model) {
+        (FIRST, PPCW) => "edition 1, PPCw",
+        (FIRST, PPCS) => "edition 1, PPCs",
+        (SECOND, PPCW) => "edition 2, PPCw",
+        (SECOND, PPCS) => "edition 2, PPCs",
+        _ => "other editions and models",
     }
 }

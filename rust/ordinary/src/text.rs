@@ -1,13 +1,15 @@
 //! A short readable text to a case, so that people can file cases by hand.
 
-use crate::case::{Case, Event, Order};
-use crate::limits::{ADDRESSES, EVENTS, NAME, THREADS, VALUE};
+use crate::case::{Case, Class, Dependency, Event, Order};
+use crate::limits::{ADDRESSES, DEPENDENCIES, EVENTS, FIRST, NAME, SECOND, THREADS, VALUE};
 use std::fmt;
 
 /// What the text may say.
 pub const HELP: &str = "\
 A case is a text of lines such as these; # starts a comment.
 
+    edition 2                       optional; if no line says it, 2 with an
+                                    lwsync or a dependency, otherwise 1
     name Dekker                     optional
     threads 2                       threads are 0 and 1
     addresses x y                   any words; as many addresses as words
@@ -15,6 +17,9 @@ A case is a text of lines such as these; # starts a comment.
     event store 0 x=1               thread 0 stores 1 to x; this is event 0
     event sync 0                    event 1
     event load 0 y=0                event 2: thread 0 loads y and gets 0
+    event lwsync 1                  event 3; not in edition 1
+    dependency data 2 5             event 5 depends on load 2 by data; or say
+                                    address or control; not in edition 1
     write-order x: 0                the stores to x, first to last; may be left
                                     out where an address has at most one store
     order 0 closed: 0<1<2, 0<5      thread 0's order, and all that follows from
@@ -22,7 +27,10 @@ A case is a text of lines such as these; # starts a comment.
     order 1 pairs: 3<4, 3<5         thread 1's order: these pairs and no others
 
 Events are numbered from 0 as listed. A thread's program order is the order in
-which its events are listed. A thread without an order line has no pairs.
+which its events are listed. A thread without an order line has no pairs. What
+depends on a load is listed after it in the same thread: a load or a store by
+address, a store by data or control. Dependencies may stand in any order after
+the events that they name.
 ";
 
 /// What is wrong with a text, and in which line.
@@ -56,6 +64,8 @@ pub fn parse(text: &str) -> Result<Case, Error> {
 struct Draft {
     line: usize,
     case: Case,
+    /// The edition that a line states.
+    edition: Option<u32>,
     addresses: Vec<String>,
     /// For each address, the line that gave its write order.
     written: Vec<Option<usize>>,
@@ -68,6 +78,7 @@ impl Draft {
         Draft {
             line: 1,
             case: Case::empty(0, 0),
+            edition: None,
             addresses: Vec::new(),
             written: Vec::new(),
             ordered: Vec::new(),
@@ -83,18 +94,41 @@ impl Draft {
         let (word, rest) = line.split_once(char::is_whitespace).unwrap_or((line, ""));
         match word {
             "" => Ok(()),
+            "edition" => self.take_edition(rest.trim()),
             "name" => self.take_name(rest.trim()),
             "threads" => self.take_threads(rest.trim()),
             "addresses" => self.take_addresses(rest),
             "initial" => self.take_initial(rest),
             "event" => self.take_event(rest),
+            "dependency" => self.take_dependency(rest),
             "write-order" => self.take_write_order(rest),
             "order" => self.take_order(rest),
             _ => Err(format!(
-                "a line starts with name, threads, addresses, initial, event, write-order or \
-                 order, not with '{word}'"
+                "a line starts with edition, name, threads, addresses, initial, event, \
+                 dependency, write-order or order, not with '{word}'"
             )),
         }
+    }
+
+    fn take_edition(&mut self, edition: &str) -> Checked<()> {
+        once(self.edition.is_none(), "the edition")?;
+        let edition = number(edition, FIRST as usize, SECOND as usize)? as u32;
+        if edition < self.case.edition {
+            let what = "a line above has an lwsync or a dependency";
+            return Err(format!("{what}, which edition {edition} does not have"));
+        }
+        self.edition = Some(edition);
+        self.case.edition = edition;
+        Ok(())
+    }
+
+    /// Makes this a case of the second edition.
+    fn take_second(&mut self, what: &str) -> Checked<()> {
+        if self.edition == Some(FIRST) {
+            return Err(format!("edition {FIRST} has no {what}"));
+        }
+        self.case.edition = SECOND;
+        Ok(())
     }
 
     fn take_name(&mut self, name: &str) -> Checked<()> {
@@ -147,7 +181,14 @@ impl Draft {
         let access = access.concat();
         let event = match kind {
             "sync" if access.is_empty() => Event::sync(thread),
-            "sync" => return Err(format!("a sync has no address: '{access}'")),
+            "lwsync" if access.is_empty() => {
+                self.take_second("lwsync")?;
+                Event::lwsync(thread)
+            }
+            "sync" | "lwsync" => {
+                let article = if kind == "sync" { "a" } else { "an" };
+                return Err(format!("{article} {kind} has no address: '{access}'"));
+            }
             "load" => {
                 let (address, value) = self.access(&access)?;
                 Event::load(thread, address, value)
@@ -156,12 +197,43 @@ impl Draft {
                 let (address, value) = self.access(&access)?;
                 Event::store(thread, address, value)
             }
-            _ => return Err(format!("an event is a load, store or sync, not '{kind}'")),
+            _ => {
+                let kinds = "load, store, sync or lwsync";
+                return Err(format!("an event is a {kinds}, not '{kind}'"));
+            }
         };
         if self.case.events.len() == EVENTS {
             return Err(format!("a case has at most {EVENTS} events"));
         }
         self.case.events.push(event);
+        Ok(())
+    }
+
+    fn take_dependency(&mut self, line: &str) -> Checked<()> {
+        self.take_second("dependencies")?;
+        let [class, from, to] = line.split_whitespace().collect::<Vec<_>>()[..] else {
+            let example = "dependency data 0 2";
+            return Err(format!("'{}' should look like: {example}", line.trim()));
+        };
+        let class = match class {
+            "address" => Class::Address,
+            "data" => Class::Data,
+            "control" => Class::Control,
+            _ => return Err(format!("say address, data or control, not '{class}'")),
+        };
+        let (from, to) = (self.event(from)?, self.event(to)?);
+        let dependency = Dependency { from, to, class };
+        if let Some(why) = self.case.unfit(dependency, None) {
+            return Err(format!("from event {from} to event {to}: {why}"));
+        }
+        let all = &mut self.case.dependencies;
+        let Err(place) = all.binary_search(&dependency) else {
+            return once(false, "this dependency");
+        };
+        if all.len() == DEPENDENCIES {
+            return Err(format!("a case has at most {DEPENDENCIES} dependencies"));
+        }
+        all.insert(place, dependency);
         Ok(())
     }
 
@@ -333,6 +405,110 @@ mod tests {
         assert_eq!(case.orders[0].pairs(4), [(0, 1), (1, 3)]);
         assert_eq!(case.orders[1], Order::total(&[0, 1, 2, 3]));
         assert_eq!(case.fault(), 0);
+    }
+
+    const EVENTS_OF_TWO: &str = "event load 0 x=0\nevent store 1 x=1\nevent sync 0\n\
+                                 event load 0 y=0\nevent store 0 y=1\n";
+
+    #[test]
+    fn the_edition_is_what_the_text_needs() {
+        let edition = |text: &str| {
+            let case = parse(&format!("{FRONT}{text}")).unwrap();
+            assert_eq!(case.fault(), 0, "{text}");
+            case.edition
+        };
+        assert_eq!(edition(""), FIRST);
+        assert_eq!(edition("edition 1\nevent sync 0"), FIRST);
+        assert_eq!(edition("edition 2"), SECOND);
+        assert_eq!(edition("event lwsync 0"), SECOND);
+        assert_eq!(edition("event lwsync 0\nedition 2"), SECOND);
+        let dependency = format!("{EVENTS_OF_TWO}dependency address 0 3");
+        assert_eq!(edition(&dependency), SECOND);
+        let first = fault_after_front("edition 1\nevent lwsync 0");
+        assert_eq!(first, "line 4: edition 1 has no lwsync");
+        let last = fault_after_front("event lwsync 0\nedition 1");
+        assert!(last.starts_with("line 4: a line above has an lwsync"));
+        let first = format!("edition 1\n{dependency}");
+        let first = fault_after_front(&first);
+        assert_eq!(first, "line 9: edition 1 has no dependencies");
+        let last = fault_after_front(&format!("{dependency}\nedition 1"));
+        assert!(last.starts_with("line 9: a line above has an lwsync"));
+        assert_eq!(
+            fault("edition 3"),
+            "line 1: '3' is not a number from 1 to 2"
+        );
+        let twice = fault("edition 2\nedition 2");
+        assert_eq!(twice, "line 2: the edition was given before");
+    }
+
+    #[test]
+    fn dependencies_are_sorted() {
+        let text = format!(
+            "{FRONT}{EVENTS_OF_TWO}dependency control 3 4\ndependency data 0 4\n\
+             dependency address 0 4\ndependency address 0 3\n"
+        );
+        let dependency = |class, from, to| Dependency { from, to, class };
+        let sorted = [
+            dependency(Class::Address, 0, 3),
+            dependency(Class::Address, 0, 4),
+            dependency(Class::Data, 0, 4),
+            dependency(Class::Control, 3, 4),
+        ];
+        assert_eq!(parse(&text).unwrap().dependencies, sorted);
+    }
+
+    #[test]
+    fn unfit_dependencies_are_told_with_their_line() {
+        let fault = |line: &str| {
+            let fault = fault_after_front(&format!("{EVENTS_OF_TWO}dependency {line}"));
+            fault.strip_prefix("line 8: ").expect(&fault).to_string()
+        };
+        assert_eq!(
+            fault("address 4 3"),
+            "from event 4 to event 3: only a load can be depended on"
+        );
+        assert_eq!(
+            fault("address 3 0"),
+            "from event 3 to event 0: the load must be listed before what depends on it"
+        );
+        assert_eq!(
+            fault("data 0 1"),
+            "from event 0 to event 1: both events must be of one thread"
+        );
+        assert_eq!(
+            fault("address 0 2"),
+            "from event 0 to event 2: only a load or a store can depend on a load"
+        );
+        assert_eq!(
+            fault("control 0 3"),
+            "from event 0 to event 3: only a store can depend on a load by data or control"
+        );
+        assert_eq!(fault("data 0 5"), "event: '5' is not a number from 0 to 4");
+        let class = "say address, data or control, not 'value'";
+        assert_eq!(fault("value 0 4"), class);
+        assert_eq!(
+            fault("data 0"),
+            "'data 0' should look like: dependency data 0 2"
+        );
+        let twice = fault_after_front(&format!(
+            "{EVENTS_OF_TWO}dependency data 0 4\n\ndependency data 0 4"
+        ));
+        assert_eq!(twice, "line 10: this dependency was given before");
+    }
+
+    #[test]
+    fn too_many_dependencies() {
+        let events = ["event load 0 x=0\n"; EVENTS].concat();
+        let pairs = (0..EVENTS).flat_map(|from| (from + 1..EVENTS).map(move |to| (from, to)));
+        let line = |(from, to): (usize, usize)| format!("dependency address {from} {to}\n");
+        let lines: Vec<String> = pairs.map(line).collect();
+        let case = |count: usize| parse(&format!("{FRONT}{events}{}", lines[..count].concat()));
+        assert_eq!(case(DEPENDENCIES).unwrap().fault(), 0);
+        let fault = case(DEPENDENCIES + 1).unwrap_err();
+        let message = format!("a case has at most {DEPENDENCIES} dependencies");
+        assert_eq!(fault.message, message);
+        let last = FRONT.lines().count() + EVENTS + DEPENDENCIES + 1;
+        assert_eq!(fault.line, last);
     }
 
     #[test]

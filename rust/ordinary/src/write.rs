@@ -1,7 +1,8 @@
 //! A case to bytes.
 
 use crate::answer::{Answer, ROOM};
-use crate::case::{Case, Event};
+use crate::case::{Case, Dependency, Event};
+use crate::limits::SECOND;
 
 /// The bytes of a number: groups of seven bits, lowest first, in the shortest form.
 pub fn number(mut value: u64) -> Vec<u8> {
@@ -22,6 +23,11 @@ pub fn numbers(case: &Case) -> Vec<u32> {
     for event in &case.events {
         all.extend(event_numbers(event));
     }
+    if case.edition == SECOND {
+        all.push(case.dependencies().len() as u32);
+        let numbers = |d: &Dependency| [d.class as u32, d.from as u32, d.to as u32];
+        all.extend(case.dependencies().iter().flat_map(numbers));
+    }
     for listed in &case.write_orders {
         all.extend(listed.iter().map(|&e| e as u32));
     }
@@ -36,7 +42,7 @@ pub fn numbers(case: &Case) -> Vec<u32> {
 
 fn event_numbers(event: &Event) -> Vec<u32> {
     let mut numbers = vec![event.kind as u32, event.thread as u32];
-    if !event.is_sync() {
+    if !event.is_barrier() {
         numbers.extend([event.address as u32, event.value]);
     }
     numbers

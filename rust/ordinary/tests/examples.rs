@@ -120,7 +120,7 @@ fn annotated(guide: &str, heading: &str) -> Vec<u8> {
 #[test]
 fn the_annotated_records_are_the_examples() {
     let guide = text_file("../docs/FORMAT.md");
-    for name in ["small", "dekker"] {
+    for name in ["small", "dekker", "hoist-dependency"] {
         let bytes = annotated(&guide, &format!("## An example: `{name}`"));
         assert_eq!(bytes, file(&format!("{name}.litmus")), "{name}");
     }

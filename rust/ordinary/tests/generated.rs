@@ -1,11 +1,13 @@
 //! The quick implementation against the plain one, and what the generators promise.
 
+use ordinary::answer::MISPLACED;
 use ordinary::generate::{self, Duty};
 use ordinary::judge::{judge, judge_case, verdict, PPCS, PPCW};
-use ordinary::limits::{EVENTS, RECORD};
+use ordinary::judge::{verdict_with_syncs, verdict_without_dependencies};
+use ordinary::limits::{most_bytes, EDITIONS, EVENTS, FIRST, SECOND};
 use ordinary::random::Random;
-use ordinary::tally::{model_name, Tally};
-use ordinary::{permutation, read, renumber, rows, write};
+use ordinary::tally::{edition_name, heading, model_name, stated_edition, Tally};
+use ordinary::{permutation, read, renumber, rows, write, Case};
 
 const MODELS: [u64; 2] = [PPCW, PPCS];
 
@@ -19,11 +21,59 @@ fn rows_agree_with_pairs() {
             let answer = judge(&record, model);
             let quick = rows::judge(&record, model);
             assert_eq!(quick, answer, "{record:?} under {model}");
-            tally.add(model_name(model), answer.number);
+            tally.add(heading(stated_edition(&record), model), answer.number);
         }
     }
     println!("{tally}");
     tally.assert_judged(100);
+}
+
+/// Every way in which a dependency may be unfit comes up, and is refused with 4.
+#[test]
+fn dependencies_are_refused() {
+    let mut random = Random::new(6);
+    let mut tally = Tally::default();
+    for _ in 0..20_000 {
+        let case = generate::any_case(&mut random);
+        let bytes = generate::damaged(&mut random, &case);
+        tally.add_unfit(&bytes);
+        if read::unfit_dependency(&bytes).is_some() {
+            assert_eq!(read::answer(&bytes).number, MISPLACED, "{bytes:?}");
+            assert_eq!(rows::read(&bytes).err(), read::read(&bytes).err());
+        }
+    }
+    println!("{tally}");
+    tally.assert_unfit(100);
+}
+
+/// Cases come up whose verdict would be another one if lwsyncs were syncs, or without dependencies.
+/// A sync in an lwsync's place can break 17 and 18 alone, and a dependency 13 alone.
+#[test]
+fn lwsyncs_and_dependencies_matter() {
+    let mut random = Random::new(7);
+    let (mut syncs, mut none) = (Tally::default(), Tally::default());
+    for _ in 0..20_000 {
+        let case = generate::any_case(&mut random);
+        for model in MODELS {
+            let number = verdict(&case, model);
+            let with_syncs = verdict_with_syncs(&case, model);
+            if with_syncs != number {
+                assert_eq!(case.edition, SECOND);
+                assert!((17..=18).contains(&with_syncs), "{case:?}");
+                syncs.add(model_name(model), with_syncs);
+            }
+            if verdict_without_dependencies(&case, model) != number {
+                assert_eq!((case.edition, number), (SECOND, 13), "{case:?}");
+                none.add(model_name(model), number);
+            }
+        }
+    }
+    println!("with syncs for lwsyncs, another verdict:\n{syncs}");
+    println!("a verdict that dependencies make:\n{none}");
+    for model in MODELS {
+        syncs.assert_each(model_name(model), 17..=18, 20);
+        none.assert_each(model_name(model), [13], 20);
+    }
 }
 
 #[test]
@@ -31,7 +81,10 @@ fn accepted_cases_are_accepted() {
     let mut random = Random::new(2);
     for i in 0..3_000 {
         let case = match i % 3 {
-            0 => generate::full(&mut random, i % (EVENTS + 1)),
+            0 => {
+                let edition = random.pick(&EDITIONS);
+                generate::full(&mut random, edition, i % (EVENTS + 1))
+            }
             1 => generate::sequential(&mut random),
             _ => generate::sparse(&mut random, None),
         };
@@ -48,9 +101,12 @@ fn a_duty_left_out_breaks_its_rules() {
     let rules = [11..=11, 12..=12, 15..=16, 17..=17, 18..=18];
     let mut random = Random::new(3);
     for (duty, rules) in Duty::ALL.into_iter().zip(rules) {
-        let mut verdicts =
-            (0..2_000).map(|_| verdict(&generate::sparse(&mut random, Some(duty)), PPCS));
-        assert!(verdicts.any(|number| rules.contains(&number)), "{rules:?}");
+        for edition in EDITIONS {
+            let mut cases = (0..4_000).map(|_| generate::sparse(&mut random, Some(duty)));
+            let breaks = |case: Case| rules.contains(&verdict(&case, PPCS));
+            let broken = cases.any(|case| case.edition == edition && breaks(case));
+            assert!(broken, "{rules:?} in edition {edition}");
+        }
     }
 }
 
@@ -60,7 +116,7 @@ fn cases_survive_writing_and_reading() {
     for _ in 0..5_000 {
         let case = generate::any_case(&mut random);
         let record = write::record(&case);
-        assert!(record.len() <= RECORD);
+        assert!(record.len() <= most_bytes(case.edition));
         assert_eq!(case.fault(), 0);
         let behind = random.bytes(3);
         let reading = read::read(&[&record[..], &behind].concat()).expect("readable");
@@ -75,15 +131,49 @@ fn cases_survive_writing_and_reading() {
 #[test]
 fn renumbering_back_gives_the_same_bytes() {
     let mut random = Random::new(5);
-    for _ in 0..2_000 {
+    let mut tally = Tally::default();
+    for _ in 0..5_000 {
         let case = generate::any_case(&mut random);
         let [q, r] = [0; 2].map(|_| random.below(permutation::COUNT as usize) as u64);
         let fits = permutation::fits(q, case.threads()) && permutation::fits(r, case.addresses());
         let there = renumber::renumber_case(&case, q, r);
         assert_eq!(there.is_ok(), fits);
         if let Ok(there) = there {
+            assert_eq!(there.dependencies, case.dependencies);
+            tally.add(edition_name(case.edition), u32::from(there != case));
             let (q, r) = (permutation::inverse(q), permutation::inverse(r));
             assert_eq!(renumber::renumber_case(&there, q, r), Ok(case));
         }
     }
+    for edition in EDITIONS {
+        tally.assert_each(edition_name(edition), [1], 100);
+    }
+}
+
+/// In the first edition dependencies are spare room: nothing asks for them.
+#[test]
+fn the_first_edition_has_no_dependencies() {
+    let mut random = Random::new(8);
+    let mut spare = 0;
+    for _ in 0..5_000 {
+        let case = generate::any_case(&mut random);
+        if case.has_lwsync() {
+            continue;
+        }
+        let first = Case {
+            edition: FIRST,
+            ..case.clone()
+        };
+        let bare = Case {
+            dependencies: Vec::new(),
+            ..first.clone()
+        };
+        assert_eq!(first.fault(), 0);
+        assert_eq!(write::record(&first), write::record(&bare));
+        for model in MODELS {
+            assert_eq!(judge_case(&first, model), judge_case(&bare, model));
+        }
+        spare += usize::from(!case.dependencies.is_empty());
+    }
+    assert!(spare >= 100, "{spare}");
 }

@@ -2,15 +2,18 @@
 
 use ordinary::answer::{Answer, ENDS, FORM, MISPLACED, PERMUTATION, RANGE, ROOM};
 use ordinary::judge::{judge, judge_case, PPCS, PPCW};
-use ordinary::limits::{ADDRESSES, EVENTS, GROUPS, NAME, RECORD, THREADS, VALUE};
+use ordinary::limits::{
+    most_bytes, ADDRESSES, DEPENDENCIES, EDITIONS, EVENTS, FIRST, GROUPS, NAME, SECOND, THREADS,
+    VALUE,
+};
 use ordinary::permutation::{composite, fits, images, inverse, COUNT};
 use ordinary::renumber::renumber;
-use ordinary::{read, text, write, Case, Event, Order};
+use ordinary::{generate, read, text, write, Case, Class, Dependency, Event, Kind, Order};
 
 const SMALL: [u8; 19] = [1, 1, 1, 0, 2, 1, 0, 0, 1, 0, 0, 0, 1, 0, 1, 0, 1, 1, 0x61];
 
 /// Each example by its name: the numbers under PPCw and PPCs.
-const ANSWERS: [(&str, [u32; 2]); 14] = [
+const ANSWERS: [(&str, [u32; 2]); 20] = [
     ("small", [0, 0]),
     ("load-0", [16, 16]),
     ("load-2", [16, 16]),
@@ -25,6 +28,12 @@ const ANSWERS: [(&str, [u32; 2]); 14] = [
     ("cc", [17, 17]),
     ("iriw", [0, 15]),
     ("lone-load", [15, 15]),
+    ("sb-lwsync", [0, 0]),
+    ("sb-sync", [17, 17]),
+    ("mp-lwsync", [16, 16]),
+    ("mp-one-sync", [0, 0]),
+    ("mp-dependency", [13, 13]),
+    ("iriw-lwsync", [0, 15]),
 ];
 
 fn example(name: &str) -> Case {
@@ -64,7 +73,14 @@ fn every_answer() {
 
 #[test]
 fn finals() {
-    for (name, finals) in [("small", &[1][..]), ("dekker", &[1, 1]), ("iriw", &[1, 1])] {
+    let both = [1, 1];
+    for (name, finals) in [
+        ("small", &[1][..]),
+        ("dekker", &both),
+        ("iriw", &both),
+        ("sb-lwsync", &both),
+        ("iriw-lwsync", &both),
+    ] {
         let case = example(name);
         assert_eq!(judge_case(&case, PPCW), accepted(&case, finals), "{name}");
     }
@@ -83,7 +99,10 @@ fn the_small_record() {
         record[at] = value;
         read::answer(&record)
     };
-    assert_eq!(number(0, 2), refused(RANGE, 0));
+    assert_eq!(number(0, 0), refused(RANGE, 0));
+    assert_eq!(number(0, SECOND as u8 + 1), refused(RANGE, 0));
+    let lwsync = Kind::Lwsync as u8;
+    assert_eq!(number(5, lwsync), refused(RANGE, 5), "in edition 1");
     assert_eq!(number(1, THREADS as u8 + 1), refused(RANGE, 1));
     assert_eq!(number(2, 0), refused(RANGE, 2));
     assert_eq!(
@@ -128,21 +147,162 @@ fn most_events() {
     assert_eq!(read::answer(&numbers), refused(ENDS, 5));
 }
 
-/// Every number as long as it gets, every pair in every order.
 #[test]
-fn the_greatest_record() {
-    let mut case = Case::empty(THREADS, ADDRESSES);
-    case.initial.fill(VALUE);
-    case.events = vec![Event::store(0, 0, VALUE); EVENTS];
-    case.write_orders[0] = (0..EVENTS).collect();
-    let everything = (0..EVENTS).flat_map(|a| (0..EVENTS).map(move |b| (a, b)));
-    for (a, b) in everything {
-        case.orders.iter_mut().for_each(|order| order.insert(a, b));
+fn the_greatest_records() {
+    for edition in EDITIONS {
+        let record = write::record(&generate::greatest(edition));
+        assert_eq!(record.len(), most_bytes(edition));
+        assert_eq!(read::answer(&record), Answer::done(record.len()));
     }
-    case.name = vec![0; NAME];
-    let record = write::record(&case);
-    assert_eq!(record.len(), RECORD);
-    assert_eq!(read::answer(&record), Answer::done(RECORD));
+}
+
+/// Reads a record of the second edition with these events of one thread or two, and these numbers
+/// behind them, up to the name.
+fn second(events: &[Event], behind: &[u8]) -> Answer {
+    let mut front = vec![SECOND as u8, 2, 1, 0, events.len() as u8];
+    for event in events {
+        front.extend([event.kind as u8, event.thread as u8]);
+        if !event.is_barrier() {
+            front.extend([event.address as u8, event.value as u8]);
+        }
+    }
+    let answer = read::answer(&[&front[..], behind].concat());
+    Answer {
+        place: answer.place.saturating_sub(front.len()),
+        length: answer.length.saturating_sub(front.len()),
+        ..answer
+    }
+}
+
+const LOAD: Event = Event {
+    kind: Kind::Load,
+    thread: 0,
+    address: 0,
+    value: 0,
+};
+const STORE: Event = Event {
+    kind: Kind::Store,
+    ..LOAD
+};
+const LWSYNC: Event = Event {
+    kind: Kind::Lwsync,
+    ..LOAD
+};
+const SYNC: Event = Event {
+    kind: Kind::Sync,
+    ..LOAD
+};
+
+/// Places count from the number of dependencies on.
+#[test]
+fn dependencies_of_a_record() {
+    let one = |events: &[Event], dependency: [u8; 3]| {
+        let stores = (0..events.len() as u8).filter(|&e| events[e as usize].is_store());
+        let behind = [vec![1], dependency.to_vec(), stores.collect(), vec![0; 3]];
+        second(events, &behind.concat())
+    };
+    let other = Event { thread: 1, ..STORE };
+    for class in 0..3 {
+        assert_eq!(one(&[LOAD, STORE], [class, 0, 1]), Answer::done(8));
+    }
+    assert_eq!(one(&[LOAD, LOAD], [0, 0, 1]), Answer::done(7));
+    assert_eq!(one(&[LOAD, LWSYNC, STORE], [1, 0, 2]), Answer::done(8));
+    let unfit = [
+        ([LOAD, LOAD], [1, 0, 1], "data to a load"),
+        ([LOAD, LOAD], [2, 0, 1], "control to a load"),
+        ([STORE, LOAD], [0, 0, 1], "from a store"),
+        ([LWSYNC, LOAD], [0, 0, 1], "from an lwsync"),
+        ([SYNC, STORE], [1, 0, 1], "from a sync"),
+        ([LOAD, LWSYNC], [0, 0, 1], "to an lwsync"),
+        ([LOAD, SYNC], [2, 0, 1], "to a sync"),
+        ([LOAD, STORE], [0, 0, 0], "to itself"),
+        ([STORE, LOAD], [1, 1, 0], "to an event listed before"),
+        ([LOAD, other], [1, 0, 1], "to another thread"),
+    ];
+    for (events, dependency, what) in unfit {
+        assert_eq!(one(&events, dependency), refused(MISPLACED, 1), "{what}");
+    }
+    assert_eq!(one(&[LOAD, STORE], [3, 0, 1]), refused(RANGE, 1));
+    assert_eq!(one(&[LOAD, STORE], [0, 2, 1]), refused(RANGE, 2));
+    assert_eq!(one(&[LOAD, STORE], [0, 1, 2]), refused(RANGE, 3));
+    assert_eq!(one(&[], [0, 0, 0]), refused(RANGE, 2), "there is no event");
+}
+
+#[test]
+fn dependencies_must_rise() {
+    let events = [LOAD, LOAD, STORE];
+    let two = |first: [u8; 3], second_one: [u8; 3]| {
+        let behind = [&[2], &first[..], &second_one, &[2, 0, 0, 0]].concat();
+        second(&events, &behind)
+    };
+    let rising = [
+        [0, 0, 1],
+        [0, 0, 2],
+        [1, 0, 2],
+        [2, 0, 2],
+        [0, 1, 2],
+        [1, 1, 2],
+    ];
+    for (i, &first) in rising.iter().enumerate() {
+        for (j, &then) in rising.iter().enumerate() {
+            let expected = match i < j {
+                true => Answer::done(11),
+                false => refused(MISPLACED, 4),
+            };
+            assert_eq!(two(first, then), expected, "{first:?} and then {then:?}");
+        }
+    }
+}
+
+#[test]
+fn numbers_of_dependencies() {
+    let events = [LOAD, STORE];
+    assert_eq!(second(&events, &[]), refused(ENDS, 0));
+    assert_eq!(second(&events, &[0, 1, 0, 0, 0]), Answer::done(5));
+    assert_eq!(
+        second(&events, &[DEPENDENCIES as u8 + 1]),
+        refused(RANGE, 0)
+    );
+    assert_eq!(second(&events, &[DEPENDENCIES as u8]), refused(ENDS, 1));
+    assert_eq!(second(&events, &[1, 1, 0]), refused(ENDS, 3));
+    assert_eq!(second(&events, &[1, 0x81, 0]), refused(FORM, 1));
+    assert_eq!(second(&events, &[1, 0, 0x80, 0x80, 0x80]), refused(FORM, 2));
+    assert_eq!(second(&[], &[1, 0, 0x80]), refused(ENDS, 2));
+    let past_the_kinds = Kind::ALL.len() as u8;
+    let record = [SECOND as u8, 1, 1, 0, 1, past_the_kinds];
+    assert_eq!(read::answer(&record), refused(RANGE, 5));
+}
+
+/// A barrier of thread 0 with an event before it and one behind, of which thread 1 knows nothing.
+#[test]
+fn what_an_lwsync_orders() {
+    let verdict = |barrier: Event, earlier: Event, later: Event| {
+        let mut case = Case::empty(2, 2);
+        case.edition = SECOND;
+        case.events = vec![
+            earlier,
+            barrier,
+            Event {
+                address: 1,
+                ..later
+            },
+        ];
+        for address in 0..2 {
+            case.write_orders[address] = case.stores_to(address);
+        }
+        case.orders[0] = Order::total(&[0, 1, 2]);
+        judge_case(&case, PPCS).number
+    };
+    for earlier in [LOAD, STORE, SYNC, LWSYNC] {
+        for later in [LOAD, STORE, SYNC, LWSYNC] {
+            let what = format!("{:?} before {:?}", earlier.kind, later.kind);
+            assert_eq!(verdict(SYNC, earlier, later), 17, "a sync, {what}");
+            let both_access = !earlier.is_barrier() && !later.is_barrier();
+            let orders = both_access && (earlier.is_load() || later.is_store());
+            let expected = if orders { 17 } else { 0 };
+            assert_eq!(verdict(LWSYNC, earlier, later), expected, "{what}");
+        }
+    }
 }
 
 #[test]
@@ -173,7 +333,9 @@ fn faults_of_a_case() {
         assert_eq!(out, [7; 200]);
         answer.number
     };
-    assert_eq!(fault(|case| case.edition = 2), RANGE);
+    assert_eq!(fault(|case| case.edition = 0), RANGE);
+    assert_eq!(fault(|case| case.edition = SECOND + 1), RANGE);
+    assert_eq!(fault(|case| case.events[1] = Event::lwsync(0)), RANGE);
     assert_eq!(fault(|case| case.orders.clear()), RANGE);
     if let Some(value) = VALUE.checked_add(1) {
         let mut case = example("dekker");
@@ -187,6 +349,36 @@ fn faults_of_a_case() {
     assert_eq!(fault(|case| case.write_orders[0] = vec![]), MISPLACED);
     assert_eq!(fault(|case| case.write_orders[0] = vec![0, 0]), MISPLACED);
     assert_eq!(fault(|case| case.name = vec![0; NAME + 1]), RANGE);
+}
+
+#[test]
+fn faults_of_dependencies() {
+    let dependency = |class, from, to| Dependency { from, to, class };
+    let fault = |dependencies: &[Dependency], written: usize| {
+        let mut case = Case::empty(1, 1);
+        case.edition = SECOND;
+        case.events = vec![LOAD, STORE];
+        case.dependencies = dependencies.to_vec();
+        case.write_orders[0] = vec![written];
+        case.orders[0] = Order::total(&[0, 1]);
+        let mut out = [7; 400];
+        let answer = write::write(&case, &mut out, 0);
+        assert_eq!(judge_case(&case, PPCS).number, case.fault());
+        case.edition = FIRST;
+        let of_write_order = [MISPLACED, 0, RANGE][written];
+        assert_eq!(case.fault(), of_write_order, "without dependencies");
+        answer.number
+    };
+    let good = Class::ALL.map(|class| dependency(class, 0, 1));
+    let [address, data, _] = good;
+    assert_eq!(fault(&good, 1), 0);
+    assert_eq!(fault(&[address; DEPENDENCIES + 1], 1), RANGE);
+    assert_eq!(fault(&[dependency(Class::Data, 2, 1)], 0), RANGE);
+    assert_eq!(fault(&[dependency(Class::Data, 1, 2)], 0), RANGE);
+    assert_eq!(fault(&[dependency(Class::Data, 1, 0)], 2), MISPLACED);
+    assert_eq!(fault(&[address, address], 2), MISPLACED);
+    assert_eq!(fault(&[data, address], 2), MISPLACED);
+    assert_eq!(fault(&good, 2), RANGE, "the write order comes last");
 }
 
 #[test]

@@ -3,9 +3,9 @@
 
 use litmus::Rows;
 use ordinary::judge::PPCS;
-use ordinary::limits::{EVENTS, THREADS};
+use ordinary::limits::{EDITIONS, EVENTS, THREADS};
 use ordinary::random::Random;
-use ordinary::{generate, rows, write, Order};
+use ordinary::{generate, rows, write, Case, Kind, Order};
 use std::hint::black_box;
 use std::time::{Duration, Instant};
 
@@ -15,15 +15,23 @@ const ROUNDS: usize = 40;
 
 fn main() {
     println!("each time is the best of {ROUNDS} rounds, which take turns\n");
-    records();
+    for edition in EDITIONS {
+        records(edition);
+    }
     orders();
 }
 
-/// From bytes, beside the ordinary implementation.
-fn records() {
-    let records = accepted_records();
+/// From bytes, beside the ordinary implementation. Records of edition 2 have lwsyncs and
+/// dependencies.
+fn records(edition: u32) {
+    let cases = accepted_cases(edition);
+    let records: Vec<Vec<u8>> = cases.iter().map(write::record).collect();
     let bytes: usize = records.iter().map(Vec::len).sum();
-    println!("{INPUTS} accepted records of {EVENTS} events with full orders, {bytes} bytes\n");
+    println!("{INPUTS} accepted records of edition {edition}, {bytes} bytes");
+    println!(
+        "{EVENTS} events each with full orders; {}\n",
+        contents(&cases)
+    );
 
     let reading = compare(
         &records,
@@ -65,11 +73,19 @@ fn orders() {
     println!("                    ratio  {:.3}", test.ratio());
 }
 
-fn accepted_records() -> Vec<Vec<u8>> {
+fn accepted_cases(edition: u32) -> Vec<Case> {
     let mut random = Random::new(40);
-    (0..INPUTS)
-        .map(|_| write::record(&generate::full(&mut random, EVENTS)))
-        .collect()
+    let cases = (0..INPUTS).map(|_| generate::full(&mut random, edition, EVENTS));
+    cases.collect()
+}
+
+/// How much of what the editions differ in these cases have.
+fn contents(cases: &[Case]) -> String {
+    let events = cases.iter().flat_map(|case| &case.events);
+    let [syncs, lwsyncs] = [Kind::Sync, Kind::Lwsync]
+        .map(|kind| events.clone().filter(|event| event.kind == kind).count());
+    let dependencies: usize = cases.iter().map(|case| case.dependencies().len()).sum();
+    format!("in all {syncs} syncs, {lwsyncs} lwsyncs, {dependencies} dependencies")
 }
 
 /// For each thread a total order of its own.

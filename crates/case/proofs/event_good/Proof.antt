@@ -10,6 +10,7 @@ event-good-spec =
     (tie.spec
     (λ c κs. search needs)
     (λ c κs. search needs)
+    (λ c κs. search needs)
     (λ c. search good-bare)
     (λ c κs. search needs)
     (λ c. search by-value)

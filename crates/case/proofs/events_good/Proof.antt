@@ -9,10 +9,10 @@ use Rattle.case.proofs.events_good.Statement.{statement}
 use Rattle.case.proofs.events_good.Tie as tie
 
 abbrev Inv-loop : tie.InvT-loop
-Inv-loop kinds owners targets values threads addresses k e₀ e = Passed k (λ i. eventGood threads addresses (eventOf (getD kinds i 0) (getD owners i 0) (getD targets i 0) (getD values i 0))) e
+Inv-loop kinds owners targets values edition threads addresses k e₀ e = Passed k (λ i. eventGood edition threads addresses (eventOf (getD kinds i 0) (getD owners i 0) (getD targets i 0) (getD values i 0))) e
 
 abbrev μ-loop : tie.MeasureT-loop
-μ-loop kinds owners targets values threads addresses k e₀ e = k - e
+μ-loop kinds owners targets values edition threads addresses k e₀ e = k - e
 
 pub events-good-spec : {M : Type 1} → statement M
 events-good-spec =

@@ -1,6 +1,6 @@
 -- `case::fault` meets its contract. Assumes nothing.
 use borrow.Author.Needs.{needs}
-use Rattle.case.proofs.Means.{bad-head, few-addresses, bad-initial, many-events, bad-listing, bad-writes, long-name, no-fault}
+use Rattle.case.proofs.Means.{bad-head, few-addresses, bad-initial, many-events, bad-listing, bad-links, bad-writes, long-name, no-fault}
 use Rattle.case.proofs.fault.Statement.{statement}
 use Rattle.case.proofs.fault.Tie as tie
 
@@ -15,6 +15,8 @@ fault-spec =
     (λ c. search many-events)
     (λ c κs. search needs)
     (λ c. search bad-listing)
+    (λ c κs. search needs)
+    (λ c. search bad-links)
     (λ c κs. (search needs, search few-addresses))
     (λ c. search bad-writes)
     (λ c. search long-name)

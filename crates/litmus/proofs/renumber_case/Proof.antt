@@ -10,9 +10,9 @@ use Rattle.litmus.proofs.Given.{renumbered-sound, case-done, case-misfi
 use Rattle.litmus.proofs.renumber_case.Statement.{statement}
 use Rattle.litmus.proofs.renumber_case.Tie as tie
 
--- the name is the struct's twelfth field
+-- the name is the struct's sixteenth field
 named : (c : tie.Start) → Bytes (c .args .c .name)
-named c = array-bytes mostName (c .args .c .name) _ (c .good .0 .1 .1 .1 .1 .1 .1 .1 .1 .1 .1 .1 .1 .1 .0)
+named c = array-bytes mostName (c .args .c .name) _ (c .good .0 .1 .1 .1 .1 .1 .1 .1 .1 .1 .1 .1 .1 .1 .1 .1 .1 .1 .0)
 
 relabel-requires : tie.Need-relabel-requires
 relabel-requires c κs =

@@ -10,10 +10,10 @@ use Rattle.orders.proofs.listed_order.Statement.{statement}
 use Rattle.orders.proofs.listed_order.Tie as tie
 
 abbrev Inv-loop : tie.InvT-loop
-Inv-loop own syncs partners asked k p rest₀ rest = Visited k own (listed k (bit own) (bit syncs) (setIn partners) (orderIn asked p)) rest
+Inv-loop own barriers partners dependents asked k p rest₀ rest = Visited k own (listed k (bit own) (bit barriers) (setIn partners) (setIn dependents) (orderIn asked p)) rest
 
 abbrev μ-loop : tie.MeasureT-loop
-μ-loop own syncs partners asked k p rest₀ rest = rest
+μ-loop own barriers partners dependents asked k p rest₀ rest = rest
 
 pub listed-order-spec : {M : Type 1} → statement M
 listed-order-spec =

@@ -13,10 +13,10 @@ use Rattle.orders.proofs.rule13.Statement.{statement}
 use Rattle.orders.proofs.rule13.Tie as tie
 
 abbrev Inv-loop : tie.InvT-loop
-Inv-loop own syncs partners asked n k p₀ p = Passed n (λ p. all k (listed k (setIn own p) (bit syncs) (setIn partners) (orderIn asked p))) p
+Inv-loop own barriers partners dependents asked n k p₀ p = Passed n (λ p. all k (listed k (setIn own p) (bit barriers) (setIn partners) (setIn dependents) (orderIn asked p))) p
 
 abbrev μ-loop : tie.MeasureT-loop
-μ-loop own syncs partners asked n k p₀ p = n - p
+μ-loop own barriers partners dependents asked n k p₀ p = n - p
 
 pub rule13-spec : {M : Type 1} → statement M
 rule13-spec =
@@ -28,14 +28,8 @@ rule13-spec =
     (λ c. search needs)
     (λ c. search needs)
     (λ c κs. search needs)
-    (λ c.
-    let s = c .before .before .before .before .before .args in
-    fails (c .before .before .before .before .loop .inv) (c .before .before .before .loop-test .taken) (c .before .listed-order .ensures) (c .if1 .taken)
-    ∙ by-listing (s .n) (s .k) (setIn (s .own .now)) (bit (s .syncs)) (setIn (s .partners .now)) (orderIn (s .asked .now)))
+    (λ c. fails (c .before .before .before .before .loop .inv) (c .before .before .before .loop-test .taken) (c .before .listed-order .ensures) (c .if1 .taken) ∙ by-listing _ _ _ _ _ _ _)
     (λ c. omega arith)
     (λ c. omega arith)
     (λ c. search passes)
-    (λ c.
-    let s = c .before .before .args in
-    ends (c .before .loop .inv) (c .loop-test .left)
-    ∙ by-listing (s .n) (s .k) (setIn (s .own .now)) (bit (s .syncs)) (setIn (s .partners .now)) (orderIn (s .asked .now))))
+    (λ c. ends (c .before .loop .inv) (c .loop-test .left) ∙ by-listing _ _ _ _ _ _ _))

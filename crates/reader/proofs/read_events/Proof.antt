@@ -6,11 +6,11 @@ use Rattle.reader.proofs.read_events.Statement.{statement}
 use Rattle.reader.proofs.read_events.Tie as tie
 
 abbrev Inv-loop : tie.InvT-loop
-Inv-loop bytes at threads addresses count kinds₀ owners₀ targets₀ values₀ place₀ e₀ kinds owners targets values place e =
-    EventsFilled bytes at threads addresses count kinds owners targets values place e
+Inv-loop bytes at edition threads addresses count kinds₀ owners₀ targets₀ values₀ place₀ e₀ kinds owners targets values place e =
+    EventsFilled bytes at edition threads addresses count kinds owners targets values place e
 
 abbrev μ-loop : tie.MeasureT-loop
-μ-loop bytes at threads addresses count kinds₀ owners₀ targets₀ values₀ place₀ e₀ kinds owners targets values place e =
+μ-loop bytes at edition threads addresses count kinds₀ owners₀ targets₀ values₀ place₀ e₀ kinds owners targets values place e =
     count - e
 
 pub read-events-spec : {M : Type 1} → statement M

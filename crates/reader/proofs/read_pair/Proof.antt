@@ -28,4 +28,5 @@ read-pair-spec =
     (λ c. search needs)
     (λ c. search needs)
     (λ c. search rising)
+    (λ c κs. search needs)
     (λ c. search falling))

@@ -14,8 +14,20 @@ gather-spec =
     (λ c κs. search needs)
     (λ c κs. search needs)
     (λ c κs. search needs)
+    (λ c κs.
+    let stores = c .before .before .before .before .before .before .before .before .before in
+    let loads = stores .before .before .before in
+    let s = loads .before .before .before in
+    (s .pre .events-most, access-address (s .args .t1) (s .pre) (loads .labelled .ensures) (stores .labelled2 .ensures)))
     (λ c κs. search needs)
-    (λ c κs. (search needs, access-address (c .before .before .before .before .before .before .before .before .before .before .before .before .before .before .before .before .before .before .before .args .t1) (c .before .before .before .before .before .before .before .before .before .before .before .before .before .before .before .before .before .before .before .pre) (c .before .before .before .before .before .before .before .before .before .before .before .before .before .before .before .before .labelled .ensures) (c .before .before .before .before .before .before .before .before .before .before .before .before .before .labelled2 .ensures)))
+    (λ c κs. search needs)
+    (λ c κs. search needs)
     (λ c.
-    let s = c .before .before .before .before .before .before .before .before .before .before .before .before .before .before .before .before .before .before .before .before .args in
-    agrees (s .t1) (c .before .before .before .before .before .before .before .before .before .before .before .before .before .before .before .before .before .before .before .before .pre) (c .before .before .before .before .before .before .before .before .before .before .before .before .before .before .before .before .before .labelled .ensures) (c .before .before .before .before .before .before .before .before .before .before .before .before .before .before .labelled2 .ensures) (c .before .before .before .before .before .before .before .before .before .before .before .labelled3 .ensures) (set-below (s .t1 .events) (c .before .before .before .before .before .before .before .before .below .ensures)) (c .before .before .before .before .before .before .before .by-label .ensures) (c .before .before .before .before .by-label2 .ensures) (c .by-event .ensures)))
+    let partners = c .before .before .before in
+    let own = partners .before .before .before in
+    let every = own .before .before .before in
+    let syncs = every .before in
+    let stores = syncs .before .before .before in
+    let loads = stores .before .before .before in
+    let s = loads .before .before .before in
+    agrees (s .args .t1) (s .pre) (loads .labelled .ensures) (stores .labelled2 .ensures) (syncs .labelled3 .ensures) (set-below (s .args .t1 .events) (every .below .ensures)) (own .by-label .ensures) (partners .sharing .ensures) (c .before .before .minus .ensures) (c .before .light .ensures) (c .dependents .ensures)))

@@ -1,10 +1,9 @@
 -- `rules::value_at` meets its contract. Assumes nothing.
 use borrow.Author.Needs.{needs}
-use lib.Dec.{eqb}
+use mathlib.Core.Path.{sym, _∙_}
 use lib.ListN.{getD}
-use borrow.Author.Tests.{eq-eqb, ne-eqb}
 use Rattle.rules.proofs.Last.{cond-yes, cond-no}
-use Rattle.model.specs.Case.{sync}
+use Rattle.model.specs.Case.{bare}
 use Rattle.rules.proofs.value_at.Statement.{statement}
 use Rattle.rules.proofs.value_at.Tie as tie
 
@@ -13,7 +12,8 @@ value-at-spec =
     tie.close
     (tie.spec
     (λ c. search needs)
+    (λ c κs. search needs)
     (λ c. search needs)
     (λ c. search needs)
-    (λ c. let s = c .before .before .args in cond-yes (eqb (getD (s .kinds .now) (s .e) 0) sync) 0 (getD (s .values .now) (s .e) 0) (eq-eqb _ _ (c .if1 .taken)))
-    (λ c. let s = c .before .before .before .args in cond-no (eqb (getD (s .kinds .now) (s .e) 0) sync) 0 (getD (s .values .now) (s .e) 0) (ne-eqb _ _ (c .before .if1 .left))))
+    (λ c. let s = c .before .before .before .args in cond-yes (bare (getD (s .kinds .now) (s .e) 0)) 0 (getD (s .values .now) (s .e) 0) (sym (c .before .bare .ensures) ∙ c .if1 .taken))
+    (λ c. let s = c .before .before .before .before .args in cond-no (bare (getD (s .kinds .now) (s .e) 0)) 0 (getD (s .values .now) (s .e) 0) (sym (c .before .before .bare .ensures) ∙ c .before .if1 .left)))

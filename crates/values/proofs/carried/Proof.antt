@@ -1,7 +1,8 @@
 -- `values::carried` meets its contract. Assumes nothing.
 use borrow.Author.Needs.{needs}
 use Rattle.finite.specs.Tests.{all, _⇒_}
-use Rattle.rows.specs.Sets.{orderIn}
+use mathlib.Core.Bool.{_&&_}
+use Rattle.rows.specs.Sets.{orderIn, applicableIn}
 use Rattle.bits.specs.Bit.{bit}
 use Rattle.rows.proofs.Visits.{Visited, visit-all, visit-in, visit-fails, visit-next, visit-ends, lowest-less}
 use Rattle.rows.proofs.SetLaws.{masked}
@@ -10,10 +11,10 @@ use Rattle.values.proofs.carried.Statement.{statement}
 use Rattle.values.proofs.carried.Tie as tie
 
 abbrev Inv-loop : tie.InvT-loop
-Inv-loop first then asked n k rest₀ rest = Visited k first (λ e. bit first e ⇒ all n (λ q. all k (λ g. bit then g ⇒ orderIn asked q e g))) rest
+Inv-loop first then syncs light f asked n k rest₀ rest = Visited k first (λ e. bit first e ⇒ all n (λ q. all k (λ g. (bit then g && applicableIn syncs light f e g) ⇒ orderIn asked q e g))) rest
 
 abbrev μ-loop : tie.MeasureT-loop
-μ-loop first then asked n k rest₀ rest = rest
+μ-loop first then syncs light f asked n k rest₀ rest = rest
 
 pub carried-spec : {M : Type 1} → statement M
 carried-spec =

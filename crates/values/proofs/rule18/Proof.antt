@@ -3,7 +3,7 @@ use Prim.Native.Nat.{_-_}
 use borrow.Author.Needs.{needs}
 use native.Mathlib.Omega.{arith}
 use Rattle.finite.specs.Tests.{all}
-use Rattle.rows.specs.Sets.{orderIn, setIn}
+use Rattle.rows.specs.Sets.{orderIn, setIn, applicableIn}
 use Rattle.bits.specs.Bit.{bit}
 use Rattle.finite.proofs.Loops.{Passed, begun, fails, passes, ends}
 use Rattle.values.specs.Parts.{threadIn, carriedOn}
@@ -12,10 +12,10 @@ use Rattle.values.proofs.rule18.Statement.{statement}
 use Rattle.values.proofs.rule18.Tie as tie
 
 abbrev Inv-loop : tie.InvT-loop
-Inv-loop own syncs stores read threads known asked n k p₀ p = Passed n (λ p. all k (carriedOn k n (setIn own p) (bit syncs) (bit stores) (setIn read) (threadIn threads) p (orderIn known) (orderIn asked))) p
+Inv-loop own barriers syncs light stores read threads known asked n k p₀ p = Passed n (λ p. all k (carriedOn k n (setIn own p) (bit barriers) (applicableIn syncs light) (bit stores) (setIn read) (threadIn threads) p (orderIn known) (orderIn asked))) p
 
 abbrev μ-loop : tie.MeasureT-loop
-μ-loop own syncs stores read threads known asked n k p₀ p = n - p
+μ-loop own barriers syncs light stores read threads known asked n k p₀ p = n - p
 
 pub rule18-spec : {M : Type 1} → statement M
 unfolding may18

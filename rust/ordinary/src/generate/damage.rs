@@ -1,7 +1,7 @@
 //! Bytes that are no records.
 
-use crate::case::Case;
-use crate::limits::{GROUPS, VALUE};
+use crate::case::{Case, Class, Dependency, Unfit};
+use crate::limits::{GROUPS, SECOND, VALUE};
 use crate::random::Random;
 use crate::write;
 
@@ -9,7 +9,7 @@ use crate::write;
 pub fn damaged(random: &mut Random, case: &Case) -> Vec<u8> {
     let mut record = write::record(case);
     let at = random.below(record.len());
-    match random.below(7) {
+    match random.below(9) {
         0 => record.truncate(at),
         1 => record[at] = random.byte(),
         2 => record[at] = record[at].wrapping_add(1),
@@ -21,9 +21,31 @@ pub fn damaged(random: &mut Random, case: &Case) -> Vec<u8> {
             let count = random.below(40);
             record = random.bytes(count);
         }
-        _ => record = with_odd_number(random, case),
+        6 => record = with_odd_number(random, case),
+        _ => record = with_unfit_dependency(random, case),
     }
     record
+}
+
+/// The record in the second edition with a dependency more that may not stand there. If none is
+/// found, it stays readable.
+fn with_unfit_dependency(random: &mut Random, case: &Case) -> Vec<u8> {
+    let mut case = case.clone();
+    case.edition = SECOND;
+    let why = random.pick(&Unfit::ALL);
+    let count = case.events.len();
+    for _ in 0..20 * count {
+        let class = random.pick(&Class::ALL);
+        let (from, to) = (random.below(count), random.below(count));
+        let dependency = Dependency { from, to, class };
+        let at = random.below(case.dependencies.len() + 1);
+        let last = case.dependencies[..at].last().copied();
+        if case.unfit(dependency, last) == Some(why) {
+            case.dependencies.insert(at, dependency);
+            break;
+        }
+    }
+    write::record(&case)
 }
 
 /// The record with one number exchanged for odd bytes, and perhaps cut behind it.

@@ -1,6 +1,7 @@
 //! Executions whose threads see no more than they must.
 
-use super::program::{any_program, interleaving, loads, own, source_in, value_in, write_in};
+use super::program::{any_program, interleaving, loads, message, own, reordered};
+use super::program::{source_in, value_in, write_in};
 use crate::case::{Case, Order};
 use crate::random::Random;
 
@@ -27,9 +28,8 @@ impl Duty {
 /// An execution in which each thread sees a few pairs of one sequence and those that the rules then
 /// ask for. With nothing left out it is accepted under both models.
 pub fn sparse(random: &mut Random, left_out: Option<Duty>) -> Case {
-    let sync_once_in = random.from_to(2, 6);
-    let mut case = any_program(random, sync_once_in);
-    let sequence = interleaving(random, &case);
+    let (mut case, sequence) = any_sequence(random);
+    let sequence = reordered(random, &case, &sequence, false);
     write_in(&mut case, &sequence);
     for l in loads(&case) {
         case.events[l].value = value_in(&case, &sequence, l);
@@ -50,6 +50,19 @@ pub fn sparse(random: &mut Random, left_out: Option<Duty>) -> Case {
     }
     .fill(&mut case);
     case
+}
+
+/// A program and a sequence of its events: a message as it is listed, or any program.
+fn any_sequence(random: &mut Random) -> (Case, Vec<usize>) {
+    if random.once_in(3) {
+        let case = message(random);
+        let listing = (0..case.events.len()).collect();
+        return (case, listing);
+    }
+    let barrier_once_in = random.from_to(2, 6);
+    let case = any_program(random, barrier_once_in);
+    let sequence = interleaving(random, &case);
+    (case, sequence)
 }
 
 /// Adds pairs of one sequence until the rules hold.
@@ -129,7 +142,7 @@ impl Filling {
                 .into_iter()
                 .filter(|&d| case.orders[p].has(f, d))
                 .collect();
-            insert_everywhere(case, e, &later);
+            insert_everywhere(case, e, f, &later);
         }
     }
 
@@ -143,26 +156,27 @@ impl Filling {
                 if source.is_some_and(after) {
                     let all = 0..case.events.len();
                     let later: Vec<usize> = all.filter(|&d| case.orders[home].has(l, d)).collect();
-                    insert_everywhere(case, e, &later);
+                    insert_everywhere(case, e, f, &later);
                 }
             }
         }
     }
 }
 
-/// The pairs of an event and a sync that stand so in the order of the sync's thread.
+/// The pairs of an event and a barrier that stand so in the order of the barrier's thread.
 fn before_barriers(case: &Case) -> Vec<(usize, usize)> {
-    let syncs = (0..case.events.len()).filter(|&f| case.events[f].is_sync());
-    let pairs = syncs.flat_map(|f| (0..case.events.len()).map(move |e| (e, f)));
+    let barriers = (0..case.events.len()).filter(|&f| case.events[f].is_barrier());
+    let pairs = barriers.flat_map(|f| (0..case.events.len()).map(move |e| (e, f)));
     pairs
         .filter(|&(e, f)| case.orders[case.events[f].thread].has(e, f))
         .collect()
 }
 
-fn insert_everywhere(case: &mut Case, e: usize, later: &[usize]) {
-    for order in &mut case.orders {
-        for &d in later {
-            order.insert(e, d);
+/// Puts e before those of the later events that barrier f orders behind it.
+fn insert_everywhere(case: &mut Case, e: usize, f: usize, later: &[usize]) {
+    for &d in later {
+        if case.events[f].orders(&case.events[e], &case.events[d]) {
+            case.orders.iter_mut().for_each(|order| order.insert(e, d));
         }
     }
 }
