@@ -22,8 +22,8 @@ extern "C" {
 
 /* The most bytes of a record of each edition, and of any record. */
 enum {
-    LITMUS_EDITION_1_BYTES = 4833,
-    LITMUS_EDITION_2_BYTES = 5120,
+    LITMUS_EDITION_1_BYTES = 33273,
+    LITMUS_EDITION_2_BYTES = 33561,
     LITMUS_RECORD_BYTES = LITMUS_EDITION_2_BYTES
 };
 
@@ -113,7 +113,7 @@ litmus_part litmus_name(const uint8_t *record, size_t size);
 uint64_t litmus_composite(uint64_t first, uint64_t then);
 
 /* The most threads and events of a case. */
-enum { LITMUS_THREADS = 4, LITMUS_EVENTS = 24 };
+enum { LITMUS_THREADS = 4, LITMUS_EVENTS = 64 };
 
 /*
  * Rule 11 of orders alone, without a record: 0 where the order of each of the threads is

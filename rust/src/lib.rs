@@ -41,9 +41,9 @@ pub const EDITION_1: u32 = 1;
 /// The edition with lwsyncs and dependencies.
 pub const EDITION_2: u32 = 2;
 /// The most bytes of a record of edition 1, as in `litmus.h`.
-pub const EDITION_1_BYTES: usize = 4_833;
+pub const EDITION_1_BYTES: usize = 33_273;
 /// The most bytes of a record of edition 2, as in `litmus.h`.
-pub const EDITION_2_BYTES: usize = 5_120;
+pub const EDITION_2_BYTES: usize = 33_561;
 /// The most bytes of a record: a buffer of this length takes any.
 pub const RECORD_BYTES: usize = EDITION_2_BYTES;
 
@@ -52,7 +52,7 @@ pub const FINALS: usize = 4;
 /// The most threads of a case, as in `litmus.h`.
 pub const THREADS: usize = 4;
 /// The most events of a case, as in `litmus.h`.
-pub const EVENTS: usize = 24;
+pub const EVENTS: usize = 64;
 
 /// Each thread's order: bit b at `p * EVENTS + a` says that event a comes before event b in thread
 /// p's order.

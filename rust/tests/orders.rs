@@ -57,7 +57,8 @@ fn rows_of(random: &mut Random, case: &Case) -> Rows {
     for (p, order) in case.orders.iter().enumerate() {
         for a in 0..count {
             let row = &mut rows[p * EVENTS + a];
-            *row &= !0 << count;
+            // Where there are as many events as bits, no bit is room beyond them.
+            *row &= u64::MAX.checked_shl(count as u32).unwrap_or(0);
             *row |= (0..count).fold(0, |set, b| set | u64::from(order.has(a, b)) << b);
         }
     }

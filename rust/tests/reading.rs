@@ -93,12 +93,15 @@ fn every_byte_changed() {
     tally.assert_unfit(20);
 }
 
+/// Each record at other places, so that every place below the shortest one's length is changed in
+/// some record.
 #[test]
-fn some_bytes_of_a_full_record_changed() {
+fn some_bytes_of_full_records_changed() {
     let mut random = Random::new(12);
-    for i in 0..20 {
+    let records = 20;
+    for i in 0..records {
         let mut record = full_record(&mut random, EDITIONS[i % EDITIONS.len()]);
-        for at in 0..record.len() {
+        for at in (i..record.len()).step_by(records) {
             let old = record[at];
             for byte in [0, old.wrapping_add(1), old ^ 128, random.byte()] {
                 record[at] = byte;
@@ -130,7 +133,7 @@ fn damaged_and_random_bytes() {
 /// The greatest record of each edition can be read, and the limits name its length.
 #[test]
 fn greatest_records() {
-    for (edition, length) in [(FIRST, 4_833), (SECOND, 5_120)] {
+    for (edition, length) in [(FIRST, 33_273), (SECOND, 33_561)] {
         let record = write::record(&generate::greatest(edition));
         assert_eq!(record.len(), length);
         assert_eq!(most_bytes(edition), length);

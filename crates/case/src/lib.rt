@@ -54,7 +54,7 @@ impl Case {
 
     pub const MOST_ADDRESSES: usize = 4;
 
-    pub const MOST_EVENTS: usize = 24;
+    pub const MOST_EVENTS: usize = 64;
 
     pub const MOST_DEPENDENCIES: usize = 96;
 
@@ -63,9 +63,9 @@ impl Case {
     pub const MOST_NAME: usize = 32;
 
     // the most bytes that a record takes: of the first edition, and of any
-    pub const MOST_FIRST_BYTES: usize = 4833;
+    pub const MOST_FIRST_BYTES: usize = 33273;
 
-    pub const MOST_BYTES: usize = 5120;
+    pub const MOST_BYTES: usize = 33561;
 
     // the kinds of events
     pub const LOAD: u8 = 0;

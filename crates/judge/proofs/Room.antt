@@ -1,21 +1,17 @@
--- The buffer that an input is read into has room for every record.
+-- Where there is room for two records of the last edition, there is room for every record.
 -- Assumes nothing.
-use Prim.Native.Nat.{ℕ, _≤_}
+use Prim.Native.Nat.{ℕ, _*_, _≤_}
 use native.Mathlib.Omega.{arith}
-use mathlib.Core.Path.{_≡_, refl, ap, _∙_}
+use mathlib.Core.Path.{_≡_, refl, ap}
 use mathlib.Core.Bool.{Bool, true, false}
 use borrow.Author.Tests.{eqb-true}
 use Rattle.model.specs.Limits.{mostEdition, second}
 use Rattle.model.specs.Bound.{mostBytes}
 use Rattle.laws.proofs.Bound.{most-is, most-first}
 
--- as many bytes as `io::large_buffer` gives
-abbrev pub room : ℕ
-room = 65536
-
-pub room-enough : (edition : ℕ) → mostBytes edition ≤ room
-room-enough edition = go (second edition) refl
+pub room-enough : {room : ℕ} → room ≡ 2 * mostBytes mostEdition → (edition : ℕ) → mostBytes edition ≤ room
+room-enough h edition = rw h (go (second edition) refl)
   where
-    go : (x : Bool) → second edition ≡ x → mostBytes edition ≤ room
-    go true e = omega (arith, ap mostBytes (eqb-true edition mostEdition e) ∙ most-is .1)
-    go false e = omega (arith, most-first edition e ∙ most-is .0)
+    go : (x : Bool) → second edition ≡ x → mostBytes edition ≤ 2 * mostBytes mostEdition
+    go true e = omega (arith, ap mostBytes (eqb-true edition mostEdition e))
+    go false e = omega (arith, most-first edition e, most-is .0, most-is .1)

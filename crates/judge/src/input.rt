@@ -1,7 +1,8 @@
 // Records back to back from an input that may be longer than the buffer.
 ghost use mathlib.Core.Path.{_≡_};
-ghost use Prim.Native.Nat.{_-_, _≤_};
+ghost use Prim.Native.Nat.{ℕ, _-_, _≤_};
 ghost use lib.ListN.{length};
+ghost use Rattle.model.specs.Bound.{mostBytes};
 ghost use Rattle.judge.specs.Within.{Within};
 use crate::answer::show;
 use crate::text::say;
@@ -115,10 +116,17 @@ fn step(fd: i32, name: &[u8], buffer: &mut [u8], p: Progress) -> Progress
     read_on(fd, name, buffer, p)
 }
 
+// Room for two records of any length: bytes are moved up once for as many as a record may take.
+fn room() -> [u8; 2 * Case::MOST_BYTES]
+    ensures { λ r. ⌜ ((edition : ℕ) → mostBytes edition ≤ length r) ⌝ }
+{
+    [0u8; 2 * Case::MOST_BYTES]
+}
+
 // Judges the records of an input, one after the other, to its end or to the first that can't be read. Nothing says that an
 // input ends, so the loop counts its turns down, from a number that no run uses up.
 pub fn judge_input(fd: i32, name: &[u8]) {
-    let mut space = io::large_buffer();
+    let mut space = room();
     let buffer: &mut [u8] = &mut space;
     let mut p = Progress {
         at: 0,

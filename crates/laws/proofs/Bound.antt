@@ -386,8 +386,8 @@ encode-by (suc g) v h = go (ltb v 128) refl (encode-by g (v / 128))
 size-by : (v : ℕ) → v < 128 ^ groups → size v ≡ length (encodeBy (groups - 1) v)
 size-by v h = ap length (encode-by (groups - 1) v h)
 
--- 01: "record bytes"; 02 (vi): "Such a record may be 5,120 bytes"
-pub most-is : (mostBytes 1 ≡ 4833) × (mostBytes 2 ≡ 5120)
+-- 01: "record bytes"; 02 (viii): "an edition 1 record may be 33,273 bytes, edition 2 has 288 more"
+pub most-is : (mostBytes 1 ≡ 33273) × (mostBytes 2 ≡ 33273 + 288)
 unfolding mostBytes mostLinkBytes mostEventBytes mostOrderBytes mostDependencyBytes mostKind encodeBy
 most-is =
     simp (

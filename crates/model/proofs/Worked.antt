@@ -15,7 +15,7 @@ use Rattle.model.specs.Fault.{every, eventGood, dependencyFault, writeFa
 use Rattle.model.specs.Renumber.{moved, relabel, renumber, fitting}
 use Rattle.model.specs.Answers.{handed, put, write, judge, judgeCase, renumberRecord, renumberCase, name, judgedName, renumberedName}
 use Rattle.model.specs.Calls.{composedAfter}
-use Rattle.model.specs.Worked.{lent, one, linked, same, holds, worked, paperCases, orderCases, valueCases, barrierCases, secondCases, layoutCases, secondLayoutCases, modelCases, nameCases, renumberCases, handedCases, callCases, records}
+use Rattle.model.specs.Worked.{lent, one, syncing, linked, same, holds, worked, paperCases, orderCases, valueCases, barrierCases, secondCases, layoutCases, secondLayoutCases, modelCases, nameCases, renumberCases, handedCases, callCases, records}
 
 pub worked-cases : T (worked records)
 unfolding all some count table each after readGroups finish readNumber encodeBy encode splice unless turns times upTo within
@@ -23,6 +23,6 @@ unfolding all some count table each after readGroups finish readNumber encodeBy 
     storeFor before everywhere written paired seen readsFrom rule11 rule12 rule13 rule14 judged rule15 rule16 rule17 rule18 verdict final
     finals event dependency dependencyGood leastAfter risingDependency risingDependencies dependencies member storeTo unlisted writeOrder pair risingPair nextPair order bytes head listing rest case read eventBytes dependencyBytes dependenciesBytes
     pairBytes rowPairs rowsPairs orderBytes recordOf every eventGood dependencyFault writeFault writesFault fault moved relabel renumber fitting
-    handed put write judge judgeCase renumberRecord renumberCase name judgedName renumberedName lent one linked same holds worked paperCases
+    handed put write judge judgeCase renumberRecord renumberCase name judgedName renumberedName lent one syncing linked same holds worked paperCases
     orderCases valueCases barrierCases secondCases layoutCases secondLayoutCases modelCases nameCases renumberCases handedCases callCases records composedAfter
 worked-cases = tt

@@ -24,7 +24,7 @@ abbrev pub mostAddresses : ℕ
 mostAddresses = labels
 
 abbrev pub mostEvents : ℕ
-mostEvents = 24
+mostEvents = 64
 
 abbrev pub mostValue : ℕ
 mostValue = 65535

@@ -8,7 +8,7 @@ use mathlib.Core.Bool.{Bool, true, false, _&&_}
 use mathlib.Core.List.{List, [], _∷_, _++_}
 use lib.Dec.{eqb}
 use lib.ListN.{length, take}
-use Rattle.finite.specs.Lists.{table}
+use Rattle.finite.specs.Lists.{table, each}
 use Rattle.number.specs.Reader.{Out, stop, next}
 use Rattle.model.specs.Case.{Case, Dependency}
 use Rattle.model.specs.Written.{recordOf}
@@ -59,6 +59,25 @@ one edition n m initial k kind thread address value write name = record {
   orders = (0 ∷ []) ∷ [];
   name = name;
 }
+
+-- a case of k syncs by one thread, no pairs, this write order and no name
+unfoldable pub syncing : (k : ℕ) (write : List ℕ) → Case
+syncing k write = record {
+  edition = 1;
+  n = 1;
+  m = 1;
+  k = k;
+  initials = 0 ∷ [];
+  events = table 0 k (λ e. record { kind = 2; thread = 0; address = 0; value = 0 });
+  dependencies = [];
+  writes = write ∷ [];
+  orders = table 0 k (λ e. 0) ∷ [];
+  name = [];
+}
+
+-- the bytes of k syncs by thread 0
+abbrev pub syncs : (k : ℕ) → List ℕ
+syncs k = each (λ e. 2 ∷ 0 ∷ []) (table 0 k (λ e. e))
 
 abbrev pub link : (class from to : ℕ) → Dependency
 link class from to = record { class = class; from = from; to = to }
@@ -844,6 +863,22 @@ secondLayoutCases =
     1 ∷
     1 ∷ 0 ∷ 1 ∷
     1 ∷ 0x61 ∷ []) ∷
+    -- 64 events, the last of which depends on the one before; the first comes before itself
+    alike (broken 11 146)
+    (2 ∷ 1 ∷ 1 ∷ 0 ∷
+    64 ∷ (syncs 62 ++
+    (0 ∷ 0 ∷ 0 ∷ 0 ∷ 1 ∷ 0 ∷ 0 ∷ 1 ∷
+    1 ∷ 1 ∷ 62 ∷ 63 ∷
+    63 ∷
+    1 ∷ 0 ∷ 0 ∷
+    0 ∷ []))) ∷
+    -- 65 events
+    alike (refusal 3 4)
+    (2 ∷ 1 ∷ 1 ∷ 0 ∷
+    65 ∷ (syncs 65 ++
+    (0 ∷
+    0 ∷
+    0 ∷ []))) ∷
     -- 97 dependencies
     alike (refusal 3 13)
     (2 ∷ 1 ∷ 1 ∷ 0 ∷
@@ -1115,26 +1150,34 @@ layoutCases =
     0 ∷
     1 ∷ 0 ∷ 1 ∷
     1 ∷ 0x61 ∷ []) ∷
-    -- 24 events
-    alike (done 229)
-    (1 ∷ 4 ∷ 4 ∷ 0 ∷ 0 ∷ 0 ∷ 0 ∷
-    24 ∷ 0 ∷ 0 ∷ 0 ∷ 0 ∷ 0 ∷ 0 ∷ 0 ∷ 0 ∷ 0 ∷ 0 ∷ 0 ∷ 0 ∷ 0 ∷ 0 ∷ 0 ∷ 0 ∷ 0 ∷ 0 ∷ 0 ∷ 0 ∷ 0 ∷ 0 ∷ 0 ∷ 0 ∷ 0 ∷ 1 ∷ 1 ∷ 0 ∷
-    0 ∷ 1 ∷ 1 ∷ 0 ∷ 0 ∷ 1 ∷ 1 ∷ 0 ∷ 0 ∷ 1 ∷ 1 ∷ 0 ∷ 0 ∷ 1 ∷ 1 ∷ 0 ∷ 0 ∷ 1 ∷ 1 ∷ 0 ∷ 0 ∷ 2 ∷ 2 ∷ 0 ∷ 0 ∷ 2 ∷ 2 ∷ 0 ∷ 0 ∷
-    2 ∷ 2 ∷ 0 ∷ 0 ∷ 2 ∷ 2 ∷ 0 ∷ 0 ∷ 2 ∷ 2 ∷ 0 ∷ 0 ∷ 2 ∷ 2 ∷ 0 ∷ 0 ∷ 3 ∷ 3 ∷ 0 ∷ 0 ∷ 3 ∷ 3 ∷ 0 ∷ 0 ∷ 3 ∷ 3 ∷ 0 ∷ 0 ∷ 3 ∷
-    3 ∷ 0 ∷ 0 ∷ 3 ∷ 3 ∷ 0 ∷ 0 ∷ 3 ∷ 3 ∷ 0 ∷
-    15 ∷ 0 ∷ 1 ∷ 0 ∷ 2 ∷ 0 ∷ 3 ∷ 0 ∷ 4 ∷ 0 ∷ 5 ∷ 1 ∷ 2 ∷ 1 ∷ 3 ∷ 1 ∷ 4 ∷ 1 ∷ 5 ∷ 2 ∷ 3 ∷ 2 ∷ 4 ∷ 2 ∷ 5 ∷ 3 ∷ 4 ∷ 3 ∷ 5 ∷
-    4 ∷ 5 ∷
-    15 ∷ 6 ∷ 7 ∷ 6 ∷ 8 ∷ 6 ∷ 9 ∷ 6 ∷ 10 ∷ 6 ∷ 11 ∷ 7 ∷ 8 ∷ 7 ∷ 9 ∷ 7 ∷ 10 ∷ 7 ∷ 11 ∷ 8 ∷ 9 ∷ 8 ∷ 10 ∷ 8 ∷ 11 ∷ 9 ∷ 10 ∷
-    9 ∷ 11 ∷ 10 ∷ 11 ∷
-    15 ∷ 12 ∷ 13 ∷ 12 ∷ 14 ∷ 12 ∷ 15 ∷ 12 ∷ 16 ∷ 12 ∷ 17 ∷ 13 ∷ 14 ∷ 13 ∷ 15 ∷ 13 ∷ 16 ∷ 13 ∷ 17 ∷ 14 ∷ 15 ∷ 14 ∷ 16 ∷
-    14 ∷ 17 ∷ 15 ∷ 16 ∷ 15 ∷ 17 ∷ 16 ∷ 17 ∷
-    15 ∷ 18 ∷ 19 ∷ 18 ∷ 20 ∷ 18 ∷ 21 ∷ 18 ∷ 22 ∷ 18 ∷ 23 ∷ 19 ∷ 20 ∷ 19 ∷ 21 ∷ 19 ∷ 22 ∷ 19 ∷ 23 ∷ 20 ∷ 21 ∷ 20 ∷ 22 ∷
-    20 ∷ 23 ∷ 21 ∷ 22 ∷ 21 ∷ 23 ∷ 22 ∷ 23 ∷
-    0 ∷ []) ∷
     -- 25 events
+    alike (broken 12 57)
+    (1 ∷ 1 ∷ 1 ∷ 0 ∷
+    25 ∷ (syncs 25 ++
+    (0 ∷
+    0 ∷ []))) ∷
+    -- 64 events, the first and the last of which come before themselves
+    alike (broken 11 139)
+    (1 ∷ 1 ∷ 1 ∷ 0 ∷
+    64 ∷ (syncs 64 ++
+    (2 ∷ 0 ∷ 0 ∷ 63 ∷ 63 ∷
+    0 ∷ []))) ∷
+    -- 65 events
     alike (refusal 3 4)
     (1 ∷ 1 ∷ 1 ∷ 0 ∷
-    25 ∷ []) ∷
+    65 ∷ (syncs 65 ++
+    (0 ∷
+    0 ∷ []))) ∷
+    -- 4,096 pairs of 64 events, and the bytes end
+    judgedUnder 0 (refusal 1 135)
+    (1 ∷ 1 ∷ 1 ∷ 0 ∷
+    64 ∷ (syncs 64 ++
+    (0x80 ∷ 0x20 ∷ []))) ∷
+    -- 4,097 pairs of 64 events
+    judgedUnder 0 (refusal 3 133)
+    (1 ∷ 1 ∷ 1 ∷ 0 ∷
+    64 ∷ (syncs 64 ++
+    (0x81 ∷ 0x20 ∷ []))) ∷
     -- Kind 3 in edition 1
     alike (refusal 3 5)
     (1 ∷ 1 ∷ 1 ∷ 0 ∷
@@ -1519,8 +1562,9 @@ handedCases =
     judgedCase 0 (one 1 1 5 0 1 1 0 0 1 (0 ∷ []) (0x61 ∷ [])) (refusal 3 0) ∷
     -- An initial value too large
     judgedCase 0 (one 1 1 1 65536 1 1 0 0 1 (0 ∷ []) (0x61 ∷ [])) (refusal 3 0) ∷
-    -- 25 events
-    judgedCase 0 (one 1 1 1 0 25 1 0 0 1 (0 ∷ []) (0x61 ∷ [])) (refusal 3 0) ∷
+    -- 64 events, and a write order with an entry that is no store; 65 events
+    judgedCase 0 (syncing 64 (63 ∷ [])) (refusal 4 0) ∷
+    judgedCase 0 (syncing 65 (63 ∷ [])) (refusal 3 0) ∷
     -- Kind 3 in edition 1
     judgedCase 0 (one 1 1 1 0 1 3 0 0 1 (0 ∷ []) (0x61 ∷ [])) (refusal 3 0) ∷
     -- Kind 4 in edition 2

@@ -106,8 +106,9 @@ fn ranges() {
     judged(b"Edition 3", &records::EDITION_3);
     judged(b"Kind 3 in edition 1", &records::KIND_3);
     judged(b"n = 5", &records::THREADS_5);
-    judged(b"k = 24", &records::EVENTS_24);
     judged(b"k = 25", &records::EVENTS_25);
+    judged(b"k = 64", &records::EVENTS_64);
+    judged(b"k = 65", &records::EVENTS_65);
     judged(b"Name length 33", &records::NAME_33);
 }
 

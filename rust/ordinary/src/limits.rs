@@ -13,7 +13,7 @@ pub const THREADS: usize = 4;
 /// Most addresses.
 pub const ADDRESSES: usize = 4;
 /// Most events.
-pub const EVENTS: usize = 24;
+pub const EVENTS: usize = 64;
 /// Most dependencies.
 pub const DEPENDENCIES: usize = 96;
 /// Greatest value.

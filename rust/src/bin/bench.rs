@@ -11,25 +11,29 @@ use std::time::{Duration, Instant};
 
 /// How many records, and how many times every thread's order.
 const INPUTS: usize = 500;
+/// How many events each of them has.
+const SIZES: [usize; 2] = [24, EVENTS];
 const ROUNDS: usize = 40;
 
 fn main() {
     println!("each time is the best of {ROUNDS} rounds, which take turns\n");
-    for edition in EDITIONS {
-        records(edition);
+    for count in SIZES {
+        for edition in EDITIONS {
+            records(edition, count);
+        }
+        orders(count);
     }
-    orders();
 }
 
 /// From bytes, beside the ordinary implementation. Records of edition 2 have lwsyncs and
 /// dependencies.
-fn records(edition: u32) {
-    let cases = accepted_cases(edition);
+fn records(edition: u32, count: usize) {
+    let cases = accepted_cases(edition, count);
     let records: Vec<Vec<u8>> = cases.iter().map(write::record).collect();
     let bytes: usize = records.iter().map(Vec::len).sum();
     println!("{INPUTS} accepted records of edition {edition}, {bytes} bytes");
     println!(
-        "{EVENTS} events each with full orders; {}\n",
+        "{count} events each with full orders; {}\n",
         contents(&cases)
     );
 
@@ -59,23 +63,23 @@ fn records(edition: u32) {
 }
 
 /// Rule 11 alone: the test that judging uses beside the plain one.
-fn orders() {
-    let orders = total_orders();
-    println!("{INPUTS} times {THREADS} total orders of {EVENTS} events\n");
+fn orders(count: usize) {
+    let orders = total_orders(count);
+    println!("{INPUTS} times {THREADS} total orders of {count} events\n");
     let test = compare(
         &orders,
-        |rows| u64::from(litmus::rule11(rows, THREADS, EVENTS) != Some(true)),
-        |rows| u64::from(litmus::rule11_by_threes(rows, THREADS, EVENTS) != Some(true)),
+        |rows| u64::from(litmus::rule11(rows, THREADS, count) != Some(true)),
+        |rows| u64::from(litmus::rule11_by_threes(rows, THREADS, count) != Some(true)),
     );
     let unit = format!("for {THREADS} orders");
     println!("rule 11     a row at once  {}", each(test.first, &unit));
     println!("       every three events  {}", each(test.second, &unit));
-    println!("                    ratio  {:.3}", test.ratio());
+    println!("                    ratio  {:.3}\n", test.ratio());
 }
 
-fn accepted_cases(edition: u32) -> Vec<Case> {
+fn accepted_cases(edition: u32, count: usize) -> Vec<Case> {
     let mut random = Random::new(40);
-    let cases = (0..INPUTS).map(|_| generate::full(&mut random, edition, EVENTS));
+    let cases = (0..INPUTS).map(|_| generate::full(&mut random, edition, count));
     cases.collect()
 }
 
@@ -88,16 +92,16 @@ fn contents(cases: &[Case]) -> String {
     format!("in all {syncs} syncs, {lwsyncs} lwsyncs, {dependencies} dependencies")
 }
 
-/// For each thread a total order of its own.
-fn total_orders() -> Vec<Rows> {
+/// For each thread a total order of its own of so many events.
+fn total_orders(count: usize) -> Vec<Rows> {
     let mut random = Random::new(41);
     (0..INPUTS)
         .map(|_| {
             let mut rows = [0; THREADS * EVENTS];
             for thread in rows.chunks_mut(EVENTS) {
-                let mut sequence: Vec<usize> = (0..EVENTS).collect();
+                let mut sequence: Vec<usize> = (0..count).collect();
                 random.shuffle(&mut sequence);
-                for (a, b) in Order::total(&sequence).pairs(EVENTS) {
+                for (a, b) in Order::total(&sequence).pairs(count) {
                     thread[a] |= 1 << b;
                 }
             }

@@ -8,8 +8,13 @@ pub fn any_program(random: &mut Random, barrier_once_in: usize) -> Case {
     let edition = random.pick(&EDITIONS);
     let threads = random.from_to(1, THREADS);
     let addresses = random.from_to(1, ADDRESSES);
-    let most = random.pick(&[4, 8, 12, EVENTS]);
-    let count = random.below(most.min(EVENTS) + 1);
+    // Long ones take the plain implementation long, so they are not many.
+    let most = if random.once_in(32) {
+        EVENTS
+    } else {
+        random.pick(&[4, 8, 12, 24]).min(EVENTS)
+    };
+    let count = random.below(most + 1);
     program(random, edition, threads, addresses, count, barrier_once_in)
 }
 

@@ -118,9 +118,10 @@ impl Filling {
         let count = case.events.len();
         for p in 0..case.threads() {
             for l in loads(case) {
-                let pairs = case.orders[p].pairs(count);
+                let order = case.orders[p].clone();
                 let own = |e: usize| case.events[e].thread == p;
-                let sees = |e| own(e) || pairs.iter().any(|&(a, b)| a == e || b == e);
+                let paired = |e| (0..count).any(|d| order.has(e, d) || order.has(d, e));
+                let sees = |e| own(e) || paired(e);
                 if !sees(l) {
                     continue;
                 }
