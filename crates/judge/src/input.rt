@@ -1,7 +1,8 @@
 // Records back to back from an input that may be longer than the buffer.
 ghost use mathlib.Core.Path.{_≡_};
-ghost use Prim.Native.Nat.{ℕ, _-_, _≤_};
-ghost use lib.ListN.{length};
+ghost use Prim.Native.Nat.{ℕ, _-_, _*_, _≤_};
+ghost use lib.ListN.{length, replicate};
+ghost use Rattle.model.specs.Limits.{mostEdition};
 ghost use Rattle.model.specs.Bound.{mostBytes};
 ghost use Rattle.judge.specs.Within.{Within};
 use crate::answer::show;
@@ -118,6 +119,7 @@ fn step(fd: i32, name: &[u8], buffer: &mut [u8], p: Progress) -> Progress
 
 // Room for two records of any length: bytes are moved up once for as many as a record may take.
 fn room() -> [u8; 2 * Case::MOST_BYTES]
+    ensures { λ r. ⌜ r ≡ replicate (2 * mostBytes mostEdition) 0 ⌝ }
     ensures { λ r. ⌜ ((edition : ℕ) → mostBytes edition ≤ length r) ⌝ }
 {
     [0u8; 2 * Case::MOST_BYTES]
