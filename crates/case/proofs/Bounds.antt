@@ -9,13 +9,13 @@ use lib.Dec.{leb, ltb}
 use lib.ListN.{length, getD}
 use borrow.Author.Tests.{ltb-true, leb-true}
 use Rattle.finite.specs.Tests.{count}
-use Rattle.finite.specs.Lists.{table}
+use Rattle.finite.specs.Lists.{table, every}
 use Rattle.finite.proofs.Tests.{and-l, and-r}
 use Rattle.finite.proofs.Lists.{table-get, table-length}
-use Rattle.model.specs.Limits.{leastEdition, mostEdition, mostThreads, mostAddresses, mostEvents, mostDependencies, mostValue, mostName}
+use Rattle.model.specs.Limits.{between, leastEdition, mostEdition, mostThreads, mostAddresses, mostEvents, mostDependencies, mostValue, mostName}
 use Rattle.model.specs.Case.{Dependency, mostKind, bare, mostClass}
 use Rattle.model.specs.Record.{dependencyGood, storeTo}
-use Rattle.model.specs.Fault.{every, between, eventGood, dependencyWithin, dependencyFault, writeFault, writesFault, fault}
+use Rattle.model.specs.Fault.{eventGood, dependencyWithin, dependencyFault, writeFault, writesFault, nameFault, fault}
 use Rattle.case.specs.declared.Case.{Case as Held}
 use Rattle.case.specs.Held.{eventOf, eventsOf, link, linkCount, linksOf, caseOf}
 use Rattle.case.specs.Sound.{Sound}
@@ -40,7 +40,7 @@ record Faultless (c : Held) : Type 0 where
   name : leb (length (caseOf c .name)) mostName ≡ true
 
 faultless : (c : Held) → fault (caseOf c) ≡ 0 → Faultless c
-unfolding fault caseOf
+unfolding fault nameFault caseOf
 faultless c h =
     let h₁ = else-none (between leastEdition mostEdition (c .edition)) 2 _ h in
     let h₂ = else-none (between 1 mostThreads (c .threads)) 2 _ (h₁ .1) in
@@ -51,7 +51,7 @@ faultless c h =
     let h₉ = else-none (leb (length (caseOf c .dependencies)) mostDependencies) 2 _ (h₆ .1) in
     let h₀ = first-none (dependencyFault (c .events) (dependencyGood (caseOf c .events)) 0 (caseOf c .dependencies)) _ (h₉ .1) in
     let h₇ = first-none (writesFault (c .events) (storeTo (caseOf c .events)) 0 (caseOf c .writes)) _ (h₀ .1) in
-    let h₈ = else-none (leb (length (caseOf c .name)) mostName) 2 0 (h₇ .1) in
+    let h₈ = else-none (leb (length (caseOf c .name)) mostName) 2 _ (h₇ .1) in
     record { edition = h₁ .0; threads = h₂ .0; addresses = h₃ .0; initials = h₄ .0; events = h₅ .0; listing = h₆ .0; few = h₉ .0; links = h₀ .0; writes = h₇ .0; name = h₈ .0 }
 
 module _ (c : Held) (F : Faultless c) where

@@ -10,13 +10,13 @@ use lib.Dec.{leb, ltb}
 use lib.ListN.{length, getD}
 use borrow.Author.Tests.{ltb-true}
 use Rattle.finite.specs.Tests.{all}
-use Rattle.finite.specs.Lists.{table}
+use Rattle.finite.specs.Lists.{table, every}
 use Rattle.finite.proofs.Tests.{iff, and-l, and-r, and-i, all-get, all-make}
 use Rattle.model.specs.Limits.{mostValue}
 use Rattle.model.specs.Case.{Dependency, mostKind, bare}
 use Rattle.model.specs.Rules.{orElse}
 use Rattle.model.specs.Record.{dependencyRank, member}
-use Rattle.model.specs.Fault.{every, eventGood, firstFault, dependencyWithin, dependencyFault, writeFault, writesFault}
+use Rattle.model.specs.Fault.{eventGood, firstFault, dependencyWithin, dependencyFault, writeFault, writesFault}
 use Rattle.case.specs.Held.{eventOf}
 use Rattle.case.proofs.Events.{event-by}
 

@@ -11,11 +11,11 @@ use Rattle.finite.specs.Tests.{all, count}
 use Rattle.finite.specs.Lists.{table}
 use Rattle.finite.proofs.Tests.{and-r, is-false, count-same}
 use Rattle.finite.proofs.Lists.{table-get, table-same, table-length}
-use Rattle.model.specs.Limits.{leastEdition, mostEdition, mostThreads, mostAddresses, mostEvents, mostDependencies, mostValue, mostName}
-use Rattle.model.specs.Case.{Event, Dependency, noEvent, store, bare}
+use Rattle.model.specs.Limits.{between, leastEdition, mostEdition, mostThreads, mostAddresses, mostEvents, mostDependencies, mostValue, mostName}
+use Rattle.model.specs.Case.{Event, Dependency, noEvent, store, bare, printable}
 use Rattle.model.specs.Rules.{orElse}
 use Rattle.model.specs.Record.{member, storeTo}
-use Rattle.model.specs.Fault.{between, eventGood, firstFault, dependencyFault, writeFault, writesFault, fault}
+use Rattle.model.specs.Fault.{eventGood, firstFault, dependencyFault, writeFault, writesFault, nameFault, fault}
 use Rattle.case.specs.declared.Case.{Case as Held}
 use Rattle.case.specs.Held.{eventOf, eventsOf, linkCount, linksOf, goodAt, linksFault, caseOf}
 use Rattle.case.specs.Stores.{storeAt, writesAt}
@@ -96,13 +96,16 @@ module _ (c : Held) where
   abbrev orders : ℕ
   orders = writesFault (c .events) (storeAt (c .kind) (c .address)) 0 (table 0 (c .addresses) (writesAt (c .kind) (c .address) (c .writes) (c .events)))
 
+  abbrev name : ℕ
+  name = nameFault (table 0 (c .namelength) (λ i. getD (c .name) i 0))
+
   links-long : length (linksOf count-links (c .class) (c .from) (c .to)) ≡ count-links
   unfolding linksOf
   links-long = table-length 0 count-links _
 
   fault-by : fault (caseOf c)
       ≡ orElse head 3 (orElse initials 3 (orElse (leb (c .events) mostEvents) 3 (orElse listing 3
-      (orElse (leb count-links mostDependencies) 3 (firstFault links (firstFault orders (orElse (leb (c .namelength) mostName) 3 0)))))))
+      (orElse (leb count-links mostDependencies) 3 (firstFault links (firstFault orders name))))))
   unfolding fault caseOf eventsOf
   fault-by =
       else-and (between leastEdition mostEdition (c .edition)) (between 1 mostThreads (c .threads)) (between 1 mostAddresses (c .addresses)) 3 _
@@ -114,10 +117,9 @@ module _ (c : Held) where
       ap₂ firstFault
       (ap (λ (good : Dependency → Bool). dependencyFault (c .events) good 0 (linksOf count-links (c .class) (c .from) (c .to)))
       (sym (goods-same (c .events) (c .kind) (c .thread) (c .address) (c .value))))
-      (ap₂ firstFault
+      (ap (λ (x : ℕ). firstFault x name)
       (writes-fault-same (c .events) _ (storeAt (c .kind) (c .address)) (λ x e h. store-same (c .events) (c .kind) (c .thread) (c .address) (c .value) x e h) 0 (caseOf c .writes)
-      ∙ ap (writesFault (c .events) (storeAt (c .kind) (c .address)) 0) (writes-of c))
-      (ap (λ (i : ℕ). orElse (leb i mostName) 3 0) (table-length 0 (c .namelength) (λ i. getD (c .name) i 0)))))))))
+      ∙ ap (writesFault (c .events) (storeAt (c .kind) (c .address)) 0) (writes-of c))))))))
 
   -- the ways through `fault`
   module _ (h : Bool) (eh : h ≡ head) where
@@ -140,7 +142,7 @@ module _ (c : Held) where
           bad-listing tl = rw (fault-by, ← eh, not-false h th, ← ei, not-false i ti, le-leb (c .events) mostEvents k, ← el, not-true l tl)
 
           module _ (tl : not l ≡ false) (v : ℕ) (ev : v ≡ linksFault c) where
-            from-orders : fault (caseOf c) ≡ firstFault v (firstFault orders (orElse (leb (c .namelength) mostName) 3 0))
+            from-orders : fault (caseOf c) ≡ firstFault v (firstFault orders name)
             unfolding linksFault
             from-orders =
                 rw (fault-by, ← eh, not-false h th, ← ei, not-false i ti, le-leb (c .events) mostEvents k, ← el, not-false l tl, ev)
@@ -150,17 +152,14 @@ module _ (c : Held) where
             bad-links n = sym (from-orders ∙ first-fault v _ n)
 
             module _ (zv : v ≡ 0) (w : ℕ) (ew : w ≡ orders) where
-              from-writes : fault (caseOf c) ≡ firstFault w (orElse (leb (c .namelength) mostName) 3 0)
+              from-writes : fault (caseOf c) ≡ firstFault w name
               from-writes = rw (from-orders, zv, ← ew)
 
               pub bad-writes : (w ≡ 0 → ⊥) → w ≡ fault (caseOf c)
               bad-writes n = sym (from-writes ∙ first-fault w _ n)
 
-              pub long-name : w ≡ 0 → mostName < c .namelength → 3 ≡ fault (caseOf c)
-              long-name z n = rw (from-writes, z, lt-leb (c .namelength) mostName n)
-
-              pub no-fault : w ≡ 0 → c .namelength ≤ mostName → 0 ≡ fault (caseOf c)
-              no-fault z n = rw (from-writes, z, le-leb (c .namelength) mostName n)
+              pub that-name : w ≡ 0 → (x : ℕ) → x ≡ name → x ≡ fault (caseOf c)
+              that-name z x e = rw (from-writes, z) e
 
 -- the ways through the fault of a struct's dependencies
 module _ (c : Held) (j : ℕ) (ej : j ≡ linkCount (c .edition) (c .dependencies)) where
@@ -172,3 +171,20 @@ module _ (c : Held) (j : ℕ) (ej : j ≡ linkCount (c .edition) (c .dependencie
       → v ≡ dependencyFault (c .events) (goodAt (c .events) (c .kind) (c .thread)) 0 (linksOf j (c .class) (c .from) (c .to)) → v ≡ linksFault c
   unfolding linksFault
   those-links m v e = rw (← ej, le-leb j mostDependencies m) e
+
+-- the ways through the fault of a name of j bytes, by each byte
+module _ (j : ℕ) (byte : ℕ → ℕ) where
+  pub long-name : mostName < j → 3 ≡ nameFault (table 0 j byte)
+  unfolding nameFault
+  long-name l = rw (table-length 0 j byte, lt-leb j mostName l)
+
+  module _ (l : j ≤ mostName) (t : Bool) (e : t ≡ all j (λ i. printable (byte i))) where
+    short-name : nameFault (table 0 j byte) ≡ orElse t 23 0
+    unfolding nameFault
+    short-name = rw (table-length 0 j byte, le-leb j mostName l, every-table printable j byte, e)
+
+    pub bad-name : not t ≡ true → 23 ≡ nameFault (table 0 j byte)
+    bad-name n = rw (short-name, not-true t n)
+
+    pub good-name : not t ≡ false → 0 ≡ nameFault (table 0 j byte)
+    good-name n = rw (short-name, not-false t n)

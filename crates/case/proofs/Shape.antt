@@ -1,20 +1,16 @@
 -- A struct's case has the shape of one that was read: without fault it keeps the limits.
 -- Assumes nothing.
-use Prim.Native.Nat.{ℕ, _<_}
+use Prim.Native.Nat.{ℕ}
 use native.Mathlib.Nat.{mod-lt}
-use native.Mathlib.Omega.{arith}
-use native.Mathlib.Decide.{decLt}
 use mathlib.Core.Path.{_≡_, refl, ap, sym, _∙_}
 use mathlib.Core.Bool.{true, true≢false}
-use mathlib.Core.List.{List}
-use lib.ListN.{length, getD, List·getD-eq-default}
 use lib.Pow.{pow-pos}
 use Rattle.finite.specs.Lists.{table}
 use Rattle.finite.proofs.Lists.{table-length}
 use Rattle.model.specs.Case.{Case, bare}
 use Rattle.model.specs.Fault.{fault}
-use Rattle.laws.proofs.Fits.{Bytes, Fits}
-use Rattle.laws.proofs.AllFrom.{all-at, all-table, from-table}
+use Rattle.laws.proofs.Fits.{Fits}
+use Rattle.laws.proofs.AllFrom.{all-table, from-table}
 use Rattle.laws.proofs.Faultless.{Shaped, faultless, fits-of}
 use Rattle.case.specs.declared.Case.{Case as Held}
 use Rattle.case.specs.Held.{eventOf, eventsOf, linkCount, linksOf, caseOf, held}
@@ -28,14 +24,7 @@ cleared : (k t a v : ℕ) → bare (eventOf k t a v .kind) ≡ true → (eventOf
 cleared k t a v =
     event-by (λ e. bare (e .kind) ≡ true → (e .address ≡ 0) × (e .value ≡ 0)) k t a v (λ h z. (refl, refl)) (λ h z. absurd (true≢false (sym z ∙ h)))
 
-byte-at : (s : List ℕ) → Bytes s → (i : ℕ) → getD s i 0 < 256
-byte-at s b i = by (decLt i (length s))
-  where
-    by : Dec (i < length s) → getD s i 0 < 256
-    by (yes h) = all-at (λ x. x < 256) s b i 0 h
-    by (no h) = omega (arith, List·getD-eq-default s 0 {n = i} (omega arith))
-
-module _ (c : Held) (b : Bytes (c .name)) where
+module _ (c : Held) where
   shaped : Shaped (caseOf c)
   unfolding caseOf eventsOf linkCount linksOf table
   shaped = record {
@@ -48,7 +37,6 @@ module _ (c : Held) (b : Bytes (c .name)) where
     writes = from-table _ 0 (c .addresses) _ (λ x l. table-length 0 _ _);
     n = sym (table-length 0 (c .threads) _);
     orders = all-table _ 0 (c .threads) _ (λ p l. (table-length 0 (c .events) _, all-table _ 0 (c .events) _ (λ a l. mod-lt _ (pow-pos (c .events)))));
-    name-bytes = all-table _ 0 (c .namelength) _ (λ i l. byte-at (c .name) b i);
   }
 
   pub fits-case : fault (caseOf c) ≡ 0 → Fits (caseOf c)

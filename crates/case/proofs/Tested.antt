@@ -6,9 +6,9 @@ use mathlib.Core.Path.{_≡_}
 use mathlib.Core.Bool.{Bool, true, false, _&&_}
 use lib.Dec.{leb}
 use borrow.Author.Tests.{le-leb, lt-leb, lt-ltb, le-ltb}
-use Rattle.model.specs.Limits.{mostValue}
-use Rattle.model.specs.Case.{mostKind, bare}
-use Rattle.model.specs.Fault.{between, eventGood}
+use Rattle.model.specs.Limits.{between, mostValue, leastPrintable, mostPrintable}
+use Rattle.model.specs.Case.{mostKind, bare, printable}
+use Rattle.model.specs.Fault.{eventGood}
 use Rattle.case.specs.Held.{eventOf}
 use Rattle.case.proofs.Faults.{event-good}
 
@@ -19,6 +19,11 @@ module _ (least most v : ℕ) where
 
   pub too-small : v < least → false ≡ between least most v
   too-small h = rw (lt-leb least v h)
+
+-- a byte of a name, which is w as a wider number
+pub of-name : (b w : ℕ) (t : Bool) → w ≡ b → t ≡ between leastPrintable mostPrintable w → t ≡ printable b
+unfolding printable
+of-name b w t e h = rw (← e) h
 
 -- ---- tests one after the other
 module _ (a b c x y z : Bool) (ea : a ≡ x) where

@@ -8,10 +8,10 @@ ghost use lib.ListN.{getD};
 ghost use Rattle.finite.specs.Tests.{all, count};
 ghost use Rattle.finite.specs.Lists.{table};
 ghost use Rattle.bits.specs.Bit.{bit};
-ghost use Rattle.model.specs.Limits.{leastEdition, mostEdition, second, mostThreads, mostAddresses, mostEvents, mostDependencies, mostValue};
-ghost use Rattle.model.specs.Case.{bare as bareKind, mostKind, store, byAddress, mostClass};
+ghost use Rattle.model.specs.Limits.{between, leastEdition, mostEdition, second, mostThreads, mostAddresses, mostEvents, mostDependencies, mostValue, mostName};
+ghost use Rattle.model.specs.Case.{bare as bareKind, mostKind, store, byAddress, mostClass, printable as printableByte};
 ghost use Rattle.model.specs.Record.{dependencyRank};
-ghost use Rattle.model.specs.Fault.{between, eventGood, dependencyWithin, dependencyFault, writeFault, writesFault, fault as faultOf};
+ghost use Rattle.model.specs.Fault.{eventGood, dependencyWithin, dependencyFault, writeFault, writesFault, nameFault, fault as faultOf};
 ghost use Rattle.model.specs.Bound.{mostBytes};
 ghost use Rattle.case.specs.Held.{eventOf, linkCount, link, linksOf, goodAt, linksFault, caseOf, emptyCase};
 ghost use Rattle.case.specs.Stores.{storeAt, writesAt};
@@ -61,6 +61,11 @@ impl Case {
     pub const MOST_VALUE: u32 = 65535;
 
     pub const MOST_NAME: usize = 32;
+
+    // the bytes of a name
+    pub const LEAST_PRINTABLE: usize = 32;
+
+    pub const MOST_PRINTABLE: usize = 126;
 
     // the most bytes that a record takes: of the first edition, and of any
     pub const MOST_FIRST_BYTES: usize = 33273;
@@ -188,6 +193,13 @@ fn wide(x: u8) -> usize
     ensures { λ r. ⌜ r ≡ x ⌝ }
 {
     x as usize
+}
+
+// Whether a name may hold the byte.
+pub fn printable(b: u8) -> bool
+    ensures { λ r. ⌜ r ≡ printableByte b ⌝ }
+{
+    within(wide(b), Case::LEAST_PRINTABLE, Case::MOST_PRINTABLE)
 }
 
 // Whether events of the kind have neither address nor value.
@@ -528,8 +540,36 @@ fn dependencies_fault(c: Case) -> u8
     )
 }
 
-// The refusal of a case that is handed without bytes: 3 or 4, as the reader would give it for the first bad field; 0 if there is
-// none.
+// Whether the first bytes of a name are printable.
+fn name_printable(name: &[u8; Case::MOST_NAME], length: usize) -> bool
+    requires { ⌜ length ≤ mostName ⌝ }
+    ensures { λ r. ⌜ r ≡ all length (λ i. printableByte (getD (now (name .entry)) i 0)) ⌝ }
+{
+    let mut i: usize = 0;
+    while i < length {
+        if !printable(name[i]) {
+            return false;
+        }
+        i += 1;
+    }
+    true
+}
+
+// The fault of a name; 0 if there is none.
+fn name_fault(name: &[u8; Case::MOST_NAME], length: usize) -> u8
+    ensures { λ r. ⌜ r ≡ nameFault (table 0 length (λ i. getD (now (name .entry)) i 0)) ⌝ }
+{
+    if Case::MOST_NAME < length {
+        return 3;
+    }
+    if !name_printable(name, length) {
+        return 23;
+    }
+    0
+}
+
+// The refusal of a case that is handed without bytes: 3 or 4, as the reader would give it for the first bad field, then 23 for a
+// byte of its name; 0 if there is none.
 pub fn fault(c: Case) -> u8
     ensures { λ r. ⌜ r ≡ faultOf (caseOf c) ⌝ }
 {
@@ -562,8 +602,5 @@ pub fn fault(c: Case) -> u8
     if found != 0 {
         return found;
     }
-    if Case::MOST_NAME < c.namelength {
-        return 3;
-    }
-    0
+    name_fault(&c.name, c.namelength)
 }

@@ -21,6 +21,7 @@ use Rattle.model.specs.Record.{Pair, dependencyGood, dependencyRank, leastAfter
 use Rattle.model.specs.Written.{eventBytes, dependencyBytes, dependenciesBytes, pairBytes, rowsPairs, orderBytes, recordOf}
 use Rattle.model.specs.Bound.{size, mostEventBytes, mostOrderBytes, mostDependencyBytes, leastLoads, mostLinkBytes, mostBytes}
 use Rattle.laws.proofs.Fits.{All, Bytes, EventFits, DependenciesFit, WriteFits, WritesFit, Fits}
+use Rattle.laws.proofs.Names.{printable-bytes}
 use Rattle.laws.proofs.AllFrom.{WritesFrom, writes-from}
 use Rattle.laws.proofs.ReadBack.{kinds-most, all-map, Rising, rising-rows, few-pairs}
 use Rattle.laws.proofs.Faultless.{least-first, least-next}
@@ -360,7 +361,7 @@ module _ (c : Case) (F : Fits c) where
       both as′ bs {cs} p q = rw (← append-assoc as′ bs cs) (p then q)
 
       name-few : Few (c .name) mostName
-      name-few = record { most = F .name; bytes = F .name-bytes }
+      name-few = record { most = F .name; bytes = printable-bytes (c .name) (F .name-printable) }
 
   pub most-bytes : length (recordOf c) ≤ mostBytes (c .edition)
   most-bytes = few .most

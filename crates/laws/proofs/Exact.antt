@@ -5,35 +5,31 @@ use native.Mathlib.Nat.{add-zero}
 use native.Mathlib.Omega.{arith}
 use mathlib.Core.Path.{_≡_, refl, sym, ap, _∙_, subst}
 use mathlib.Core.Bool.{Bool, true, false, cond}
+use mathlib.Core.Logic.{_⊎_, inl, inr, ⊎-elim}
 use mathlib.Core.List.{List, [], _∷_, _++_, append-assoc, append-nil}
 use lib.Dec.{leb, ltb, lit≤}
-use lib.ListN.{length, take, drop, getD, length-append, length-drop, take-append-drop}
-use lib.Seq.{length-take-le, drop-drop}
+use lib.ListN.{length, take, drop, getD, length-append, length-drop, take-append-drop, List·getD-append}
+use lib.Seq.{length-take-le, drop-drop, getD-drop}
 use borrow.Author.Tests.{ltb-true, ltb-false, leb-true}
-use Rattle.finite.specs.Lists.{each}
+use Rattle.finite.specs.Lists.{each, every}
 use Rattle.number.specs.Number.{Raw, got, short, wrong, readGroups, finish, readNumber, groups, encode}
 use Rattle.number.specs.Reader.{Out, stop, next, Reader, give, _>>=_, onward, unless, tested, turns, another, times, upTo, within, below, under, numberOut}
 use Rattle.number.specs.declared.NumberRead.the-variants as the
 use Rattle.number.proofs.Laws as number
-use Rattle.model.specs.Record.{bytes}
+use Rattle.model.specs.Case.{printable}
+use Rattle.model.specs.Record.{bytes, printableFront, printed, text}
 use Rattle.laws.proofs.Fits.{All, Bytes}
+use Rattle.laws.proofs.Names.{FirstBad, first-bad}
 use Rattle.laws.proofs.ReadBack.{folded}
 
 pub bytes-at : (s : List ℕ) → ((i : ℕ) → getD s i 0 < 256) → Bytes s
 bytes-at [] h = tt
 bytes-at (b ∷ s) h = (h 0, bytes-at s (λ i. h (suc i)))
 
-pub all-left : {A : Type 0} (P : A → Type 0) (s t : List A) → All P (s ++ t) → All P s
-all-left P [] t h = tt
-all-left P (a ∷ s) t h = (h .0, all-left P s t (h .1))
-
 pub all-drop : {A : Type 0} (P : A → Type 0) (n : ℕ) (s : List A) → All P s → All P (drop n s)
 all-drop P zero s h = h
 all-drop P (suc n) [] h = h
 all-drop P (suc n) (a ∷ s) h = all-drop P n s (h .1)
-
-pub all-take : {A : Type 0} (P : A → Type 0) (n : ℕ) (s : List A) → All P s → All P (take n s)
-all-take P n s h = all-left P (take n s) (drop n s) (rw (take-append-drop n s) h)
 
 -- as the crate of numbers says it
 pub number-bytes : (s : List ℕ) → Bytes s → number.Bytes s
@@ -47,11 +43,27 @@ pub record Took {A : Type 0} (Q : A → List ℕ → Type 0) (s : List ℕ) (at 
   pub place : p ≡ at + length bs
   pub holds : Q a bs
 
--- reading was refused
-pub record Refused (s : List ℕ) (x p : ℕ) : Type 0 where
+-- a number or the bytes' end is at fault, at a place within the bytes
+pub record Malformed (s : List ℕ) (x p : ℕ) : Type 0 where
   pub least : 1 ≤ x
   pub most : x ≤ 4
   pub within : p ≤ length s
+
+-- a byte of the name is at fault
+pub record Unprintable (s : List ℕ) (x p : ℕ) : Type 0 where
+  pub number : x ≡ 23
+  pub within : p < length s
+  pub byte : printable (getD s p 0) ≡ false
+
+-- reading was refused
+abbrev pub Refused : List ℕ → (x p : ℕ) → Type 0
+Refused s x p = Malformed s x p ⊎ Unprintable s x p
+
+pub refused-least : {s : List ℕ} {x p : ℕ} → Refused s x p → 1 ≤ x
+refused-least r = ⊎-elim (λ m. m .least) (λ u. omega (arith, u .number)) r
+
+pub refused-within : {s : List ℕ} {x p : ℕ} → Refused s x p → p ≤ length s
+refused-within r = ⊎-elim (λ m. m .within) (λ u. omega (arith, u .within)) r
 
 abbrev pub Outcome : {A : Type 0} → (A → List ℕ → Type 0) → List ℕ → ℕ → Out A → Type 0
 Outcome Q s at (stop x p) = Refused s x p
@@ -124,7 +136,7 @@ exact-unless {A} x test {r} {enc} {P} lo hi p = record { run = λ s at h l. go s
     go s at l (next a i) G = passed (test a) refl
       where
         passed : (y : Bool) → test a ≡ y → Outcome (As enc (λ a. P a × (test a ≡ true))) s at (cond y (next a i) (stop x at))
-        passed false k = record { least = lo; most = hi; within = l }
+        passed false k = inl (record { least = lo; most = hi; within = l })
         passed true k =
             record { bs = G .bs; whole = G .whole; place = G .place; holds = record { same = G .holds .same; fits = (G .holds .fits, k) } }
 
@@ -137,13 +149,13 @@ exact-up-to hi = record {
   where
     go : (s : List ℕ) (at : ℕ) → at ≤ length s → (r : Raw) → ((w j : ℕ) → r ≡ got w j → number.Encoded 0 (drop at s) w j)
         → Outcome (As encode (λ v. v ≤ hi)) s at (numberOut (finish at hi r))
-    go s at l short g = record { least = lit≤ tt; most = lit≤ tt; within = l }
-    go s at l wrong g = record { least = lit≤ tt; most = lit≤ tt; within = l }
+    go s at l short g = inl (record { least = lit≤ tt; most = lit≤ tt; within = l })
+    go s at l wrong g = inl (record { least = lit≤ tt; most = lit≤ tt; within = l })
     go s at l (got w j) g = small (ltb hi w) refl (g w j refl)
       where
         small : (y : Bool) → ltb hi w ≡ y → number.Encoded 0 (drop at s) w j
             → Outcome (As encode (λ v. v ≤ hi)) s at (numberOut (cond y (the.Refused 3 at) (the.Number w (at + j))))
-        small true k G = record { least = lit≤ tt; most = lit≤ tt; within = l }
+        small true k G = inl (record { least = lit≤ tt; most = lit≤ tt; within = l })
         small false k G = record {
           bs = encode w;
           whole = sym (take-append-drop j (drop at s)) ∙ rw (G .bytes, drop-drop j at s);
@@ -228,19 +240,43 @@ pub exact-times : {A : Type 0} {r : Reader A} {enc : A → List ℕ} {P : A → 
 unfolding times
 exact-times {r = r} {enc = enc} {P = P} p i = exact-fits (exact-list (λ _. r) enc (λ _. P) (λ _. p) i) (λ l h. (h .0, along-all P [] l (h .1)))
 
-pub exact-bytes : (i : ℕ) → Exact (bytes i) (As (λ l. l) (λ l. (length l ≡ i) × Bytes l))
+exact-bytes : (i : ℕ) → Exact (bytes i) (As (λ l. l) (λ l. length l ≡ i))
 unfolding bytes
-exact-bytes i = record { run = λ s at h l. go s at h l (leb (at + i) (length s)) refl }
+exact-bytes i = record { run = λ s at h l. go s at l (leb (at + i) (length s)) refl }
   where
-    go : (s : List ℕ) (at : ℕ) → Bytes s → at ≤ length s → (y : Bool) → leb (at + i) (length s) ≡ y
-        → Outcome (As (λ l. l) (λ l. (length l ≡ i) × Bytes l)) s at (cond y (next (take i (drop at s)) (at + i)) (stop 1 at))
-    go s at h l false k = record { least = lit≤ tt; most = lit≤ tt; within = l }
-    go s at h l true k =
+    go : (s : List ℕ) (at : ℕ) → at ≤ length s → (y : Bool) → leb (at + i) (length s) ≡ y
+        → Outcome (As (λ l. l) (λ l. length l ≡ i)) s at (cond y (next (take i (drop at s)) (at + i)) (stop 1 at))
+    go s at l false k = inl (record { least = lit≤ tt; most = lit≤ tt; within = l })
+    go s at l true k =
         let fits : at + i ≤ length s = leb-true (at + i) (length s) k in
         let size : length (take i (drop at s)) ≡ i = length-take-le i (drop at s) (rw length-drop (omega arith)) in
         record {
           bs = take i (drop at s);
           whole = sym (take-append-drop i (drop at s)) ∙ rw (drop-drop i at s);
           place = rw size;
-          holds = record { same = refl; fits = (size, all-take _ i (drop at s) (all-drop _ at s h)) };
+          holds = record { same = refl; fits = size };
         }
+
+-- the bytes w stand from the place on, and their first bad one is no byte of a name
+unprintable : (s : List ℕ) (at : ℕ) (w rest : List ℕ) → at ≤ length s → drop at s ≡ w ++ rest → every printable w ≡ false
+    → Unprintable s 23 (at + printableFront w)
+unprintable s at w rest l e bad =
+    let F : FirstBad w = first-bad w bad in
+    let sizes : length s - at ≡ length w + length rest = simp (length-drop, length-append) at (ap length e) in
+    let there : getD w (printableFront w) 0 ≡ getD s (at + printableFront w) 0 =
+    sym (List·getD-append w rest 0 (printableFront w) (F .within)) ∙ ap (λ (t : List ℕ). getD t (printableFront w) 0) (sym e) ∙ getD-drop at s (printableFront w) 0 in
+    record { number = refl; within = omega (arith, F .within); byte = rw (← there) (F .byte) }
+
+pub exact-text : (i : ℕ) → Exact (text i) (As (λ l. l) (λ l. (length l ≡ i) × (every printable l ≡ true)))
+unfolding text
+exact-text i = record { run = λ s at h l. go s at l (bytes i s at) (exact-bytes i .run s at h l) }
+  where
+    go : (s : List ℕ) (at : ℕ) → at ≤ length s → (o : Out (List ℕ)) → Outcome (As (λ l. l) (λ l. length l ≡ i)) s at o
+        → Outcome (As (λ l. l) (λ l. (length l ≡ i) × (every printable l ≡ true))) s at (printed at o)
+    go s at l (stop x p) G = G
+    go s at l (next w p) G = by (every printable w) refl
+      where
+        by : (y : Bool) → every printable w ≡ y
+            → Outcome (As (λ l. l) (λ l. (length l ≡ i) × (every printable l ≡ true))) s at (cond y (next w p) (stop 23 (at + printableFront w)))
+        by true e = record { bs = G .bs; whole = G .whole; place = G .place; holds = record { same = G .holds .same; fits = (G .holds .fits, e) } }
+        by false e = inr (unprintable s at w (drop p s) l (rw (G .holds .same) at (G .whole)) e)

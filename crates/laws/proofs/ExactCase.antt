@@ -11,16 +11,16 @@ use lib.Dec.{leb, lit≤}
 use lib.ListN.{length, take, drop}
 use lib.Seq.{take-at}
 use Rattle.finite.specs.Tests.{count}
-use Rattle.finite.specs.Lists.{each}
+use Rattle.finite.specs.Lists.{each, every}
 use Rattle.number.specs.Number.{encode}
 use Rattle.number.specs.Reader.{stop, next, give, _>>=_, turns, another, upTo, below}
 use Rattle.model.specs.Limits.{leastEdition, mostEdition, second, mostThreads, mostAddresses, mostEvents, mostDependencies, mostValue, mostName}
-use Rattle.model.specs.Case.{Case, Dependency, mostKind, bare, mostClass}
+use Rattle.model.specs.Case.{Case, Dependency, mostKind, bare, mostClass, printable}
 use Rattle.model.specs.Record.{event, dependency, dependencyGood, dependencyRank, leastAfter, risingDependency, risingDependencies, dependencies, member, storeTo, unlisted, writeOrder, nextWriteOrder, Head, head, Listing, listing, Rest, rest, case, read}
 use Rattle.model.specs.Written.{eventBytes, dependencyBytes, dependenciesBytes, recordOf}
 use Rattle.laws.proofs.Fits.{All, Bytes, EventFits, DependencyFits, DependenciesFit, WriteFits, WritesFit, Fits}
 use Rattle.laws.proofs.ReadBack.{headBytes, listingBytes, restBytes, parted, read-back}
-use Rattle.laws.proofs.Exact.{Took, Refused, Exact, As, Along, grown, exact-give, exact-bind, exact-last, exact-map, exact-fits, exact-unless, exact-up-to, exact-within, exact-below, exact-under, exact-list, exact-times, exact-bytes}
+use Rattle.laws.proofs.Exact.{Took, Refused, Exact, As, Along, grown, exact-give, exact-bind, exact-last, exact-map, exact-fits, exact-unless, exact-up-to, exact-within, exact-below, exact-under, exact-list, exact-times, exact-text}
 use Rattle.laws.proofs.ExactOrder.{exact-order}
 
 -- ---- an event
@@ -166,7 +166,7 @@ pub record RestFits (n m k : ℕ) (mine : ℕ → ℕ → Bool) (t : Rest) : Typ
   pub as-many-orders : length (t .orders) ≡ n
   pub orders : All (λ rows. (length rows ≡ k) × All (λ r. r < 2 ^ k) rows) (t .orders)
   pub name : length (t .name) ≤ mostName
-  pub name-bytes : Bytes (t .name)
+  pub name-printable : every printable (t .name) ≡ true
 
 pub exact-head : Exact head (As headBytes HeadFits)
 unfolding head
@@ -194,9 +194,9 @@ exact-rest n m k mine =
     exact-bind (exact-writes k mine m) (λ ws hw.
     exact-bind (exact-times (exact-order k) n) (λ os ho.
     exact-bind (exact-up-to mostName) (λ i hi.
-    exact-last _ _ (exact-bytes i) (λ name h. record {
+    exact-last _ _ (exact-text i) (λ name h. record {
       same = rw (h .0);
-      fits = record { as-many-writes = hw .0; writes = hw .1; as-many-orders = ho .0; orders = ho .1; name = rw (h .0) hi; name-bytes = h .1 };
+      fits = record { as-many-writes = hw .0; writes = hw .1; as-many-orders = ho .0; orders = ho .1; name = rw (h .0) hi; name-printable = h .1 };
     }))))
 
 pub exact-case : Exact case (As recordOf Fits)
@@ -227,7 +227,7 @@ exact-case =
         n = sym (R .as-many-orders);
         orders = R .orders;
         name = R .name;
-        name-bytes = R .name-bytes;
+        name-printable = R .name-printable;
       };
     }))))
 
@@ -256,7 +256,7 @@ readable-back s c i R = ap read (R .whole) ∙ read-back c (R .fits) (drop i s) 
 pub readable-iff : (s : List ℕ) → Bytes s → (c : Case) (i : ℕ) → (read s ≡ next c i) ↔ Readable s c i
 readable-iff s h c i = (readable s h c i, readable-back s c i)
 
--- a refusal is one of 1 to 4, at a place within the bytes
+-- a refusal is one of 1 to 4, at a place within the bytes, or 23 at a byte that is not printable
 pub refused : (s : List ℕ) → Bytes s → (x p : ℕ) → read s ≡ stop x p → Refused s x p
 unfolding read
 refused s h x p e = rw e at (exact-case .run s 0 h (omega arith))

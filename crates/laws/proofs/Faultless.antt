@@ -9,22 +9,23 @@ use lib.Dec.{leb, ltb}
 use lib.ListN.{length}
 use borrow.Author.Tests.{le-leb, leb-true, lt-ltb, ltb-true}
 use Rattle.finite.specs.Tests.{count}
+use Rattle.finite.specs.Lists.{every}
 use Rattle.finite.proofs.Tests.{and-l, and-r, and-i}
 use Rattle.number.specs.Reader.{next}
-use Rattle.model.specs.Limits.{leastEdition, mostEdition, second, mostThreads, mostAddresses, mostEvents, mostDependencies, mostValue, mostName}
-use Rattle.model.specs.Case.{Case, Event, Dependency, mostKind, bare, mostClass}
+use Rattle.model.specs.Limits.{between, leastEdition, mostEdition, second, mostThreads, mostAddresses, mostEvents, mostDependencies, mostValue, mostName}
+use Rattle.model.specs.Case.{Case, Event, Dependency, mostKind, bare, mostClass, printable}
 use Rattle.model.specs.Rules.{lastOf, orElse}
 use Rattle.model.specs.Record.{dependencyGood, dependencyRank, leastAfter, member, storeTo, read}
 use Rattle.model.specs.Written.{recordOf}
-use Rattle.model.specs.Fault.{every, between, eventGood, firstFault, dependencyWithin, dependencyFault, writeFault, writesFault, fault}
+use Rattle.model.specs.Fault.{eventGood, firstFault, dependencyWithin, dependencyFault, writeFault, writesFault, nameFault, fault}
 use Rattle.model.specs.Answers.{handed}
-use Rattle.laws.proofs.Fits.{All, Bytes, EventFits, DependencyFits, DependenciesFit, WriteFits, Fits}
+use Rattle.laws.proofs.Fits.{All, EventFits, DependencyFits, DependenciesFit, WriteFits, Fits}
 use Rattle.laws.proofs.AllFrom.{AllFrom, from-map, WritesFrom, writes-from, from-writes}
 use Rattle.laws.proofs.ReadBack.{all-map, read-back}
 
 -- ---- what no fault tells
 
--- the lists are as long as the counts say, edition 1 has no dependencies, what stands for nothing is 0, rows hold no event past the last, a name is bytes
+-- the lists are as long as the counts say, edition 1 has no dependencies, what stands for nothing is 0, rows hold no event past the last
 pub record Shaped (c : Case) : Type 0 where
   pub m : c .m ≡ length (c .initials)
   pub k : c .k ≡ length (c .events)
@@ -35,7 +36,6 @@ pub record Shaped (c : Case) : Type 0 where
   pub writes : AllFrom (λ x w. length w ≡ count (c .k) (storeTo (c .events) x)) 0 (c .writes)
   pub n : c .n ≡ length (c .orders)
   pub orders : All (λ rows. (length rows ≡ c .k) × All (λ r. r < 2 ^ (c .k)) rows) (c .orders)
-  pub name-bytes : Bytes (c .name)
 
 -- ---- tests and faults
 
@@ -203,7 +203,7 @@ module _ (k : ℕ) (mine : ℕ → ℕ → Bool) where
 -- ---- cases
 
 pub faultless : (c : Case) → Fits c → fault c ≡ 0
-unfolding fault
+unfolding fault nameFault
 faultless c F =
     pass _ 3 _ (between-make leastEdition mostEdition (c .edition) (F .edition-least) (F .edition-most))
     (pass _ 3 _ (between-make 1 mostThreads (c .n) (F .n-least) (F .n-most))
@@ -214,10 +214,10 @@ faultless c F =
     (pass _ 3 _ (le-leb (length (c .dependencies)) mostDependencies (F .dependencies-most))
     (none _ _ (rw (least-first (c .k)) at (links-faultless (c .k) (dependencyGood (c .events)) [] (c .dependencies) (F .dependencies)))
     (none _ _ (writes-faultless (c .k) (storeTo (c .events)) 0 (c .writes) (writes-from (c .k) (storeTo (c .events)) [] (c .writes) (F .writes)))
-    (pass _ 3 0 (le-leb (length (c .name)) mostName (F .name)) refl)))))))))
+    (pass _ 3 _ (le-leb (length (c .name)) mostName (F .name)) (pass _ 23 0 (F .name-printable) refl))))))))))
 
 pub fits-of : (c : Case) → Shaped c → fault c ≡ 0 → Fits c
-unfolding fault
+unfolding fault nameFault
 fits-of c S e =
     let edition = passed (between leastEdition mostEdition (c .edition)) 2 _ e in
     let threads = passed (between 1 mostThreads (c .n)) 2 _ (edition .there) in
@@ -228,7 +228,8 @@ fits-of c S e =
     let few = passed (leb (length (c .dependencies)) mostDependencies) 2 _ (listed .there) in
     let links = neither (dependencyFault (c .k) (dependencyGood (c .events)) 0 (c .dependencies)) _ (few .there) in
     let writes = neither (writesFault (c .k) (storeTo (c .events)) 0 (c .writes)) _ (links .there) in
-    let name = passed (leb (length (c .name)) mostName) 2 0 (writes .there) in
+    let name = passed (leb (length (c .name)) mostName) 2 _ (writes .there) in
+    let print = passed (every printable (c .name)) 22 0 (name .there) in
     record {
       edition-least = between-least leastEdition mostEdition (c .edition) (edition .here);
       edition-most = between-most leastEdition mostEdition (c .edition) (edition .here);
@@ -249,7 +250,7 @@ fits-of c S e =
       n = S .n;
       orders = S .orders;
       name = leb-true (length (c .name)) mostName (name .here);
-      name-bytes = S .name-bytes;
+      name-printable = print .here;
     }
 
 -- a case that fits has the shape, so that the shape asks no more than fitting does
@@ -264,7 +265,6 @@ shaped c F = record {
   writes = from-map _ _ (λ x w h. h .0) 0 (c .writes) (writes-from (c .k) (storeTo (c .events)) [] (c .writes) (F .writes));
   n = F .n;
   orders = F .orders;
-  name-bytes = F .name-bytes;
 }
 
 -- such a case is handed on as it is, with its record's length

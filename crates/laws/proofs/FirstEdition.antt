@@ -1,5 +1,6 @@
 -- 02 (vi) leaves edition 1 as it was: its records are read, judged, written and renumbered as before there was an edition 2.
--- Each definition that edition 2 changed stands here in its text before that, with `first` before its name; the others are cited.
+-- Each definition that edition 2 changed stands here in its text before that, with `first` before its name; the others are cited,
+-- and with them what later requests changed of both editions: the limits, and the bytes of a name.
 -- Assumes nothing.
 use Prim.Native.Nat.{ℕ, zero, suc, _+_, _≤_}
 use native.Mathlib.Omega.{arith}
@@ -11,20 +12,20 @@ use lib.Dec.{eqb, leb, ltb, lit≤}
 use lib.ListN.{length, getD, drop}
 use borrow.Author.Tests.{ne-eqb, lt-ltb, ltb-false, leb-true}
 use Rattle.finite.specs.Tests.{all, some, _⇒_}
-use Rattle.finite.specs.Lists.{each}
+use Rattle.finite.specs.Lists.{each, every}
 use Rattle.finite.proofs.Tests.{and-left, or-false, and-true, T-true, all-same, imp-cong}
 use Rattle.permutation.specs.Permutation.{image}
 use Rattle.number.specs.Number.{Raw, got, short, wrong, groups, readGroups, finish, readNumber, encode}
 use Rattle.number.specs.Reader.{Out, stop, next, Reader, give, _>>=_, onward, unless, times, upTo, within, below, numberOut}
 use Rattle.number.specs.declared.NumberRead.the-variants as the
-use Rattle.model.specs.Limits.{leastEdition, mostEdition, second, mostThreads, mostAddresses, mostEvents, mostValue, mostName}
+use Rattle.model.specs.Limits.{between, leastEdition, mostEdition, second, mostThreads, mostAddresses, mostEvents, mostValue}
 use Rattle.model.specs.Case.{Case, Event, noEvent, sync, lwsync, mostKind, bare}
 use Rattle.model.specs.Rules.{Model, orElse, among, kind, thread, address, value, initial, isLoad, isStore, isSync, isBarrier, of, oneAddress, depends, applicable, storeFor, before, everywhere, written, seen, readsFrom, judged}
 use Rattle.model.specs.Rules.{rule11, rule12, rule13, rule14, rule15, rule16, rule17, rule18, verdict}
 use Rattle.model.specs.Record.{event, dependencies, storeTo, Head, head, Listing, listing, rest, case, read}
 use Rattle.model.specs.Written.{eventBytes, dependenciesBytes, orderBytes, recordOf}
 use Rattle.model.specs.Renumber.{moved, relabel, renumber}
-use Rattle.model.specs.Fault.{every, between, eventGood, firstFault, dependencyFault, writesFault, fault}
+use Rattle.model.specs.Fault.{eventGood, firstFault, dependencyFault, writesFault, nameFault, fault}
 use Rattle.laws.proofs.Fits.{All, Fits}
 use Rattle.laws.proofs.ReadBack.{all-map}
 
@@ -216,7 +217,7 @@ firstFaultOf c =
     (orElse (leb (c .k) mostEvents) 3
     (orElse (every (firstEventGood (c .n) (c .m)) (c .events)) 3
     (firstFault (writesFault (c .k) (storeTo (c .events)) 0 (c .writes))
-    (orElse (leb (length (c .name)) mostName) 3 0)))))))
+    (nameFault (c .name))))))))
 
 -- ---- kinds and lists
 

@@ -7,8 +7,9 @@ use mathlib.Core.List.{List, [], _∷_, _++_}
 use lib.Dec.{leb}
 use lib.ListN.{length}
 use Rattle.finite.specs.Tests.{count}
+use Rattle.finite.specs.Lists.{every}
 use Rattle.model.specs.Limits.{leastEdition, mostEdition, second, mostThreads, mostAddresses, mostEvents, mostDependencies, mostValue, mostName}
-use Rattle.model.specs.Case.{Case, Event, Dependency, mostKind, bare, mostClass}
+use Rattle.model.specs.Case.{Case, Event, Dependency, mostKind, bare, mostClass, printable}
 use Rattle.model.specs.Record.{dependencyGood, dependencyRank, leastAfter, member, storeTo}
 
 abbrev pub All : {A : Type 0} → (A → Type 0) → List A → Type 0
@@ -68,4 +69,4 @@ pub record Fits (c : Case) : Type 0 where
   pub n : c .n ≡ length (c .orders)
   pub orders : All (λ rows. (length rows ≡ c .k) × All (λ r. r < 2 ^ (c .k)) rows) (c .orders)
   pub name : length (c .name) ≤ mostName
-  pub name-bytes : Bytes (c .name)
+  pub name-printable : every printable (c .name) ≡ true

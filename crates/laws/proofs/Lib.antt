@@ -1,4 +1,5 @@
 pub mod Fits
+pub mod Names
 pub mod AllFrom
 pub mod ReadBack
 pub mod Exact

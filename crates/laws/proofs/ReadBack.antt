@@ -14,14 +14,14 @@ use lib.Seq.{take-at, set-append-seam, getD-append-seam}
 use lib.Pow.{mod-pow-add, pow-pos}
 use borrow.Author.Tests.{le-leb, lt-ltb, eqb-true, eqb-false}
 use Rattle.finite.specs.Tests.{count}
-use Rattle.finite.specs.Lists.{each}
+use Rattle.finite.specs.Lists.{each, every}
 use Rattle.number.specs.Number.{encode, groups}
 use Rattle.number.specs.Reader.{next, Reader, give, _>>=_, unless, turns, another, times, upTo, within, below, under, numberOut}
 use Rattle.number.proofs.Laws.{read-at, past}
 use Rattle.bits.specs.Bit.{bit}
 use Rattle.model.specs.Limits.{leastEdition, mostEdition, second, mostThreads, mostAddresses, mostEvents, mostDependencies, mostValue, mostName}
-use Rattle.model.specs.Case.{Case, Event, Dependency, sync, lwsync, mostKind, bare, mostClass}
-use Rattle.model.specs.Record.{event, dependency, dependencyGood, leastAfter, risingDependency, risingDependencies, dependencies, member, storeTo, unlisted, writeOrder, nextWriteOrder, Pair, Rows, pair, rank, risingPair, withPair, nextPair, noPairs, order, bytes, Head, head, Listing, listing, Rest, rest, case, read}
+use Rattle.model.specs.Case.{Case, Event, Dependency, sync, lwsync, mostKind, bare, mostClass, printable}
+use Rattle.model.specs.Record.{event, dependency, dependencyGood, leastAfter, risingDependency, risingDependencies, dependencies, member, storeTo, unlisted, writeOrder, nextWriteOrder, Pair, Rows, pair, rank, risingPair, withPair, nextPair, noPairs, order, bytes, text, Head, head, Listing, listing, Rest, rest, case, read}
 use Rattle.model.specs.Written.{eventBytes, dependencyBytes, dependenciesBytes, pairBytes, rowPairs, rowsPairs, orderBytes, recordOf}
 use Rattle.laws.proofs.Fits.{All, EventFits, DependencyFits, DependenciesFit, WriteFits, WritesFit, Fits}
 
@@ -151,12 +151,12 @@ pub reads-store : (k : ℕ) (mine listed : ℕ → Bool) (e : ℕ) → e < k →
 unfolding unlisted
 reads-store k mine listed e l t f = reads-unless 4 _ (reads-below k e l f) t
 
-pub reads-name : (l : List ℕ) → ReadsAs (bytes (length l)) l l
-unfolding bytes
-reads-name l = record {
+pub reads-name : (l : List ℕ) → every printable l ≡ true → ReadsAs (text (length l)) l l
+unfolding text bytes
+reads-name l e = record {
   run = λ s at t b h.
       let fits : at + length l ≤ length s = omega (arith, simp (length-drop, length-append) at (ap length h)) in
-      rw (le-leb (at + length l) (length s) fits, h, take-at l t (length l) refl);
+      rw (le-leb (at + length l) (length s) fits, h, take-at l t (length l) refl, e);
 }
 
 weaken : (k least less : ℕ) (ps : List Pair) → less ≤ least → Rising k least ps → Rising k less ps
@@ -347,7 +347,7 @@ module _ (c : Case) (F : Fits c) where
       reads-bind _ writes
       (reads-bind _ orders
       (reads-bind _ (reads-up-to mostName (length (c .name)) (F .name) (lit< tt))
-      (reads-last _ (reads-name (c .name)))))
+      (reads-last _ (reads-name (c .name) (F .name-printable)))))
 
   pub reads-case : ReadsAs case (recordOf c) c
   unfolding case

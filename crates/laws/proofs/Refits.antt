@@ -183,7 +183,7 @@ module _ (q r : ℕ) (c : Case) (F : Fits c) (fq : T (fits q (c .n))) (fr : T (f
     n = moved-length q (c .n) [] (c .orders);
     orders = all-moved _ q (c .n) fq [] (c .orders) (F .n) (F .orders);
     name = F .name;
-    name-bytes = F .name-bytes;
+    name-printable = F .name-printable;
   }
 
   as-long : AsLong (recordOf (renumber q r c)) (recordOf c)

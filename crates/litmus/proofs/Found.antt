@@ -10,6 +10,7 @@ use Rattle.model.specs.Limits.{mostAddresses}
 use Rattle.model.specs.Case.{Case}
 use Rattle.model.specs.Record.{read}
 use Rattle.laws.proofs.Fits.{Fits, Bytes}
+use Rattle.laws.proofs.Exact.{refused-least}
 use Rattle.laws.proofs.ExactCase.{readable, refused}
 use Rattle.case.specs.Held.{caseOf, held}
 use Rattle.case.specs.Sound.{Sound}
@@ -41,7 +42,7 @@ found s b r e z = go (read s) refl e
     go : (o : Out Case) → read s ≡ o → r ≡ readingOf o → Found s r
     go (stop x p) g e =
         let same : r .number ≡ x = ap (λ (q : Reading). q .number) e in
-        absurd (omega (arith, refused s b x p g .least))
+        absurd (omega (arith, refused-least (refused s b x p g)))
     go (next c i) g e =
         let same : r .length ≡ i = ap (λ (q : Reading). q .length) e in
         record {

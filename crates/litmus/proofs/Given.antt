@@ -138,12 +138,12 @@ module _ (c : Held) (q r : ℕ) where
 
     -- what is left is a struct d, whose record has the size n
     pub case-done :
-        Bytes (c .name) → fitting q r (caseOf c) ≡ true → (d : Held) → d ≡ held (renumber q r (caseOf c)) → (n : ℕ) → n ≡ length (recordOf (caseOf d))
+        fitting q r (caseOf c) ≡ true → (d : Held) → d ≡ held (renumber q r (caseOf c)) → (n : ℕ) → n ≡ length (recordOf (caseOf d))
         → (a : Shown) → a ≡ shown (done n) → _≡_ {A = CaseAnswer} (record { answer = a; case = d }) (caseShown (renumberCase q r (caseOf c)))
     unfolding caseShown
-    case-done b fit d e n l a g =
+    case-done fit d e n l a g =
         let long : n ≡ length (recordOf (renumber q r (caseOf c))) =
-        l ∙ ap (λ (x : Case). length (recordOf x)) (renumbered-is (caseOf c) (fits-case c b good) q r d fit e) in
+        l ∙ ap (λ (x : Case). length (recordOf x)) (renumbered-is (caseOf c) (fits-case c good) q r d fit e) in
         rw (case-out _ (renumber-out q r (caseOf c) (length (recordOf (caseOf c))) fit)) (λ i. record { answer = (g ∙ ap (λ (x : ℕ). shown (done x)) long) i; case = e i })
 
     pub case-misfit : fitting q r (caseOf c) ≡ false → caseShown (stop 5 0) ≡ caseShown (renumberCase q r (caseOf c))

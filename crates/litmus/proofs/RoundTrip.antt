@@ -21,9 +21,9 @@ use Rattle.case.proofs.Shape.{fits-case}
 
 -- every struct without fault, whatever lies in its spare room: what `write` leaves in the buffer is read as the case it means
 pub struct-reads-back :
-    (c : Held) → Bytes (c .name) → fault (caseOf c) ≡ 0 → (buffer : List ℕ) (at : ℕ) → T (room (length (recordOf (caseOf c))) buffer at)
+    (c : Held) → fault (caseOf c) ≡ 0 → (buffer : List ℕ) (at : ℕ) → T (room (length (recordOf (caseOf c))) buffer at)
     → read (drop at (write (caseOf c) buffer at .buffer)) ≡ next (caseOf c) (length (recordOf (caseOf c)))
-struct-reads-back c b e = written-reads-back (caseOf c) (fits-case c b e)
+struct-reads-back c e = written-reads-back (caseOf c) (fits-case c e)
 
 -- all bytes that can be read: `write` of the struct that `read` gives leaves the bytes that were read
 pub struct-writes-back :

@@ -4,7 +4,7 @@ use Prim.Native.Nat.{ℕ}
 use mathlib.Core.Bool.{Bool, cond, _||_}
 use mathlib.Core.List.{List}
 use lib.Dec.{eqb}
-use Rattle.model.specs.Limits.{second, mostThreads}
+use Rattle.model.specs.Limits.{between, second, mostThreads, leastPrintable, mostPrintable}
 
 -- 01: "kind (0 load, 1 store, 2 sync)"
 abbrev pub load : ℕ
@@ -57,6 +57,10 @@ pub record Dependency : Type 0 where
   pub class : ℕ
   pub from : ℕ
   pub to : ℕ
+
+-- a name may hold the byte
+unfoldable pub printable : ℕ → Bool
+printable b = between leastPrintable mostPrintable b
 
 pub record Case : Type 0 where
   pub edition : ℕ

@@ -1,23 +1,17 @@
--- The refusal of a case that is handed without bytes: 01: "3 or 4 as the reader would for the first bad field"; 0 if there is none.
+-- The refusal of a case that is handed without bytes: 01: "3 or 4 as the reader would for the first bad field"; then 02 (xi)'s 23; 0 if there
+-- is none.
 -- Orders are taken as sets, so that no pair is out of turn or out of range.
 -- Assumes nothing.
 use Prim.Native.Nat.{ℕ, zero, suc, _+_}
-use mathlib.Core.Bool.{Bool, true, not, _&&_, _||_}
+use mathlib.Core.Bool.{Bool, not, _&&_, _||_}
 use mathlib.Core.List.{List, [], _∷_, _++_}
 use lib.Dec.{leb, ltb}
 use lib.ListN.{length}
-use Rattle.model.specs.Limits.{leastEdition, mostEdition, mostThreads, mostAddresses, mostEvents, mostDependencies, mostValue, mostName}
-use Rattle.model.specs.Case.{Case, Event, Dependency, mostKind, bare, mostClass}
+use Rattle.finite.specs.Lists.{every}
+use Rattle.model.specs.Limits.{between, leastEdition, mostEdition, mostThreads, mostAddresses, mostEvents, mostDependencies, mostValue, mostName}
+use Rattle.model.specs.Case.{Case, Event, Dependency, mostKind, bare, mostClass, printable}
 use Rattle.model.specs.Rules.{orElse}
 use Rattle.model.specs.Record.{dependencyGood, dependencyRank, member, storeTo}
-
-unfoldable pub every : {A : Type 0} → (A → Bool) → List A → Bool
-every f [] = true
-every f (a ∷ as′) = f a && every f as′
-
--- v is from lo to hi
-abbrev pub between : ℕ → ℕ → ℕ → Bool
-between lo hi v = leb lo v && leb v hi
 
 unfoldable pub eventGood : (edition n m : ℕ) → Event → Bool
 eventGood edition n m e =
@@ -50,6 +44,10 @@ unfoldable pub writesFault : (k : ℕ) (mine : ℕ → ℕ → Bool) → (x : �
 writesFault k mine x [] = 0
 writesFault k mine x (w ∷ ws) = firstFault (writeFault k (mine x) [] w) (writesFault k mine (suc x) ws)
 
+-- of a name: 02 (xi): 23 "after its record's 1 to 4"
+unfoldable pub nameFault : List ℕ → ℕ
+nameFault bs = orElse (leb (length bs) mostName) 3 (orElse (every printable bs) 23 0)
+
 unfoldable pub fault : Case → ℕ
 fault c =
     orElse (between leastEdition mostEdition (c .edition)) 3
@@ -61,4 +59,4 @@ fault c =
     (orElse (leb (length (c .dependencies)) mostDependencies) 3
     (firstFault (dependencyFault (c .k) (dependencyGood (c .events)) 0 (c .dependencies))
     (firstFault (writesFault (c .k) (storeTo (c .events)) 0 (c .writes))
-    (orElse (leb (length (c .name)) mostName) 3 0)))))))))
+    (nameFault (c .name))))))))))

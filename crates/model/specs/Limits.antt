@@ -1,9 +1,13 @@
 -- The limits of a case, each named once (01, "What a case may hold"). The code's are the associated constants of `Case`.
 -- Assumes nothing.
 use Prim.Native.Nat.{ℕ}
-use mathlib.Core.Bool.{Bool}
-use lib.Dec.{eqb}
+use mathlib.Core.Bool.{Bool, _&&_}
+use lib.Dec.{eqb, leb}
 use Rattle.permutation.specs.Permutation.{labels}
+
+-- v is from lo to hi
+abbrev pub between : ℕ → ℕ → ℕ → Bool
+between lo hi v = leb lo v && leb v hi
 
 -- the editions that a record may state
 abbrev pub leastEdition : ℕ
@@ -36,3 +40,10 @@ mostDependencies = 96
 -- a name's bytes
 abbrev pub mostName : ℕ
 mostName = 32
+
+-- 02 (xi): "Name bytes must be 32 to 126"
+abbrev pub leastPrintable : ℕ
+leastPrintable = 32
+
+abbrev pub mostPrintable : ℕ
+mostPrintable = 126

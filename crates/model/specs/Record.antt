@@ -1,15 +1,16 @@
 -- The record, byte by byte: what reading it answers (01, "The record, byte by byte").
 -- Assumes nothing.
-use Prim.Native.Nat.{ℕ, _+_, _*_, _^_}
+use Prim.Native.Nat.{ℕ, suc, _+_, _*_, _^_}
 use mathlib.Core.Bool.{Bool, false, not, cond, _&&_, _||_}
 use mathlib.Core.List.{List, [], _∷_, map}
 use lib.Dec.{eqb, leb, ltb}
 use lib.Bits.{bitOr}
 use lib.ListN.{length, getD, take, drop, set, replicate}
 use Rattle.finite.specs.Tests.{count}
+use Rattle.finite.specs.Lists.{every}
 use Rattle.number.specs.Reader.{Out, stop, next, Reader, give, _>>=_, unless, turns, another, times, upTo, within, below, under}
 use Rattle.model.specs.Limits.{leastEdition, mostEdition, second, mostThreads, mostAddresses, mostEvents, mostDependencies, mostValue, mostName}
-use Rattle.model.specs.Case.{Case, Event, Dependency, noEvent, load, store, mostKind, bare, byAddress, mostClass}
+use Rattle.model.specs.Case.{Case, Event, Dependency, noEvent, load, store, mostKind, bare, byAddress, mostClass, printable}
 use Rattle.model.specs.Rules.{lastOf}
 
 -- kind, thread, and unless the kind is bare, address and value
@@ -124,6 +125,20 @@ order k = do
 unfoldable pub bytes : ℕ → Reader (List ℕ)
 bytes i s at = cond (leb (at + i) (length s)) (next (take i (drop at s)) (at + i)) (stop 1 at)
 
+-- how many bytes stand before the first that is not printable
+unfoldable pub printableFront : List ℕ → ℕ
+printableFront [] = 0
+printableFront (b ∷ bs) = cond (printable b) (suc (printableFront bs)) 0
+
+-- 02 (xi): "otherwise 23 at the first bad byte": of bytes that were read from at on
+abbrev pub printed : (at : ℕ) → Out (List ℕ) → Out (List ℕ)
+printed at (stop x p) = stop x p
+printed at (next bs p) = cond (every printable bs) (next bs p) (stop 23 (at + printableFront bs))
+
+-- i bytes that are printable: 02 (xi): 23 stands "after its record's 1 to 4"
+unfoldable pub text : ℕ → Reader (List ℕ)
+text i s at = printed at (bytes i s at)
+
 pub record Head : Type 0 where
   pub edition : ℕ
   pub n : ℕ
@@ -161,7 +176,7 @@ rest n m k mine = do
   writes ← turns m (nextWriteOrder k mine) []
   orders ← times n (order k)
   i ← upTo mostName
-  name ← bytes i
+  name ← text i
   give (record { writes = writes; orders = orders; name = name })
 
 unfoldable pub case : Reader Case

@@ -75,6 +75,19 @@ syncing k write = record {
   name = [];
 }
 
+-- the small record with this name, which starts at byte 18
+abbrev pub smallNamed : (name : List ℕ) → List ℕ
+smallNamed name =
+    (1 ∷ 1 ∷ 1 ∷ 0 ∷
+    2 ∷ 1 ∷ 0 ∷ 0 ∷ 1 ∷ 0 ∷ 0 ∷ 0 ∷ 1 ∷
+    0 ∷
+    1 ∷ 0 ∷ 1 ∷
+    length name ∷ []) ++ name
+
+-- a case of one store with this name
+abbrev pub storeNamed : (name : List ℕ) → Case
+storeNamed name = one 1 1 1 0 1 1 0 0 1 (0 ∷ []) name
+
 -- the bytes of k syncs by thread 0
 abbrev pub syncs : (k : ℕ) → List ℕ
 syncs k = each (λ e. 2 ∷ 0 ∷ []) (table 0 k (λ e. e))
@@ -1289,14 +1302,14 @@ layoutCases =
     2 ∷ 1 ∷ 0 ∷ 0 ∷ 1 ∷ 0 ∷ 0 ∷ 0 ∷ 1 ∷
     0 ∷
     1 ∷ 0x00 ∷ []) ∷
-    -- Name of 32 bytes, any bytes
+    -- Name of 32 bytes
     alike (accepted 50 (1 ∷ 0 ∷ 0 ∷ 0 ∷ []))
     (1 ∷ 1 ∷ 1 ∷ 0 ∷
     2 ∷ 1 ∷ 0 ∷ 0 ∷ 1 ∷ 0 ∷ 0 ∷ 0 ∷ 1 ∷
     0 ∷
     1 ∷ 0 ∷ 1 ∷
-    32 ∷ 0xE0 ∷ 0xE1 ∷ 0xE2 ∷ 0xE3 ∷ 0xE4 ∷ 0xE5 ∷ 0xE6 ∷ 0xE7 ∷ 0xE8 ∷ 0xE9 ∷ 0xEA ∷ 0xEB ∷ 0xEC ∷ 0xED ∷ 0xEE ∷ 0xEF ∷
-    0xF0 ∷ 0xF1 ∷ 0xF2 ∷ 0xF3 ∷ 0xF4 ∷ 0xF5 ∷ 0xF6 ∷ 0xF7 ∷ 0xF8 ∷ 0xF9 ∷ 0xFA ∷ 0xFB ∷ 0xFC ∷ 0xFD ∷ 0xFE ∷ 0xFF ∷ []) ∷
+    32 ∷ 0x20 ∷ 0x21 ∷ 0x22 ∷ 0x23 ∷ 0x24 ∷ 0x25 ∷ 0x26 ∷ 0x27 ∷ 0x28 ∷ 0x29 ∷ 0x2A ∷ 0x2B ∷ 0x2C ∷ 0x2D ∷ 0x2E ∷ 0x2F ∷
+    0x6F ∷ 0x70 ∷ 0x71 ∷ 0x72 ∷ 0x73 ∷ 0x74 ∷ 0x75 ∷ 0x76 ∷ 0x77 ∷ 0x78 ∷ 0x79 ∷ 0x7A ∷ 0x7B ∷ 0x7C ∷ 0x7D ∷ 0x7E ∷ []) ∷
     -- Name length 33
     alike (refusal 3 17)
     (1 ∷ 1 ∷ 1 ∷ 0 ∷
@@ -1386,6 +1399,73 @@ nameCases =
     1 ∷ 0x61 ∷ [])
     (lent 18) ∷
     []
+
+-- 02 (xi): names of three bytes, with b as the first, the middle and the last: of a record, then of a case without bytes
+abbrev pub namesWith : (first middle last handed : Answer) (b : ℕ) → List Row
+namesWith first middle last handed b =
+    alike first (smallNamed (b ∷ 0x61 ∷ 0x61 ∷ [])) ∷
+    alike middle (smallNamed (0x61 ∷ b ∷ 0x61 ∷ [])) ∷
+    alike last (smallNamed (0x61 ∷ 0x61 ∷ b ∷ [])) ∷
+    judgedCase 0 (storeNamed (b ∷ 0x61 ∷ 0x61 ∷ [])) handed ∷
+    judgedCase 0 (storeNamed (0x61 ∷ b ∷ 0x61 ∷ [])) handed ∷
+    judgedCase 0 (storeNamed (0x61 ∷ 0x61 ∷ b ∷ [])) handed ∷ []
+
+-- b is printable
+abbrev pub printableByte : (b : ℕ) → List Row
+printableByte = namesWith (accepted 21 (1 ∷ 0 ∷ 0 ∷ 0 ∷ [])) (accepted 21 (1 ∷ 0 ∷ 0 ∷ 0 ∷ [])) (accepted 21 (1 ∷ 0 ∷ 0 ∷ 0 ∷ [])) (accepted 15 (1 ∷ 0 ∷ 0 ∷ 0 ∷ []))
+
+-- b is not: 23 at its place, which is 0 of a case without bytes
+abbrev pub unprintableByte : (b : ℕ) → List Row
+unprintableByte = namesWith (refusal 23 18) (refusal 23 19) (refusal 23 20) (refusal 23 0)
+
+unfoldable pub printableCases : List Row
+printableCases =
+    unprintableByte 31 ++ printableByte 32 ++ printableByte 126 ++ unprintableByte 127 ++ unprintableByte 0 ++ unprintableByte 255 ++
+    -- Two bad bytes: the place of the first
+    (alike (refusal 23 19) (smallNamed (0x61 ∷ 0xFF ∷ 0x00 ∷ [])) ∷
+    -- The bytes end inside a name with a bad byte
+    alike (refusal 1 18) (take 20 (smallNamed (0x61 ∷ 0x00 ∷ 0x61 ∷ []))) ∷
+    -- A name of 33 bad bytes
+    alike (refusal 3 17) (smallNamed (table 0 33 (λ i. 0))) ∷
+    -- The last of 32 bytes is bad
+    alike (refusal 23 49) (smallNamed (table 0 31 (λ i. 0x61) ++ (127 ∷ []))) ∷
+    -- A broken rule: the load holds 2
+    alike (refusal 23 19)
+    (1 ∷ 1 ∷ 1 ∷ 0 ∷
+    2 ∷ 1 ∷ 0 ∷ 0 ∷ 1 ∷ 0 ∷ 0 ∷ 0 ∷ 2 ∷
+    0 ∷
+    1 ∷ 0 ∷ 1 ∷
+    2 ∷ 0x61 ∷ 0x1F ∷ []) ∷
+    -- Edition 2
+    alike (refusal 23 20)
+    (2 ∷ 1 ∷ 1 ∷ 0 ∷
+    2 ∷ 1 ∷ 0 ∷ 0 ∷ 1 ∷ 0 ∷ 0 ∷ 0 ∷ 1 ∷
+    0 ∷
+    0 ∷
+    1 ∷ 0 ∷ 1 ∷
+    2 ∷ 0x61 ∷ 0x80 ∷ []) ∷
+    -- Model 2
+    judgedUnder 2 (refusal 7 0) (smallNamed (0x00 ∷ [])) ∷
+    -- A threads' permutation that doesn't fit, an addresses' one, no room
+    renumbered 6 0 2 (refusal 23 18) (smallNamed (0x00 ∷ [])) (lent 22) (lent 22) ∷
+    renumbered 0 6 2 (refusal 23 18) (smallNamed (0x00 ∷ [])) (lent 22) (lent 22) ∷
+    renumbered 0 0 4 (refusal 23 18) (smallNamed (0x00 ∷ [])) (lent 22) (lent 22) ∷
+    -- Room, and permutations that fit
+    renumbered 0 0 0 (refusal 23 19) (smallNamed (0x61 ∷ 0x00 ∷ [])) (lent 22) (lent 22) ∷
+    -- No name
+    named 0 [] (smallNamed (0x61 ∷ 0x00 ∷ [])) ∷
+    namedRenumbered 0 0 0 [] (smallNamed (0x61 ∷ 0x00 ∷ [])) (lent 22) ∷
+    -- Of a case: a load that breaks rule 15; model 2; an entry that is no store; a name of 33 bad bytes
+    judgedCase 0 (one 1 1 1 0 1 0 0 0 1 [] (0x00 ∷ [])) (refusal 23 0) ∷
+    judgedCase 2 (storeNamed (0x00 ∷ [])) (refusal 7 0) ∷
+    judgedCase 0 (one 1 1 1 0 1 0 0 0 1 (0 ∷ []) (0x00 ∷ [])) (refusal 4 0) ∷
+    judgedCase 0 (storeNamed (table 0 33 (λ i. 0))) (refusal 3 0) ∷
+    -- Edition 2
+    judgedCase 0 (one 2 1 1 0 1 1 0 0 1 (0 ∷ []) (0x80 ∷ [])) (refusal 23 0) ∷
+    -- A permutation that doesn't fit, no room, room
+    renumberedCase 24 0 (storeNamed (0x00 ∷ [])) (refusal 23 0) [] ∷
+    written (storeNamed (0x00 ∷ [])) 1 (refusal 23 0) (lent 2) (lent 2) ∷
+    written (storeNamed (0xFF ∷ 0x00 ∷ [])) 0 (refusal 23 0) (lent 15) (lent 15) ∷ [])
 
 -- Renumbering by q and r from a place of a lent buffer: the record, the buffer before, the buffer after
 unfoldable pub renumberCases : List Row
@@ -1671,14 +1751,14 @@ handedCases =
     0 ∷
     1 ∷ 0x61 ∷
     11 ∷ 12 ∷ 13 ∷ 14 ∷ []) ∷
-    -- Any bytes in the name
-    written (one 1 1 1 0 1 1 0 0 1 (0 ∷ []) (0xFF ∷ 0x00 ∷ [])) 0 (done 14)
+    -- The least and the greatest byte of a name
+    written (storeNamed (0x20 ∷ 0x7E ∷ [])) 0 (done 14)
     (lent 15)
     (1 ∷ 1 ∷ 1 ∷ 0 ∷
     1 ∷ 1 ∷ 0 ∷ 0 ∷ 1 ∷
     0 ∷
     0 ∷
-    2 ∷ 0xFF ∷ 0x00 ∷
+    2 ∷ 0x20 ∷ 0x7E ∷
     14 ∷ []) ∷
     []
 
@@ -1705,4 +1785,4 @@ callCases =
 unfoldable pub records : List Row
 records =
     paperCases ++ orderCases ++ valueCases ++ barrierCases ++ secondCases ++ layoutCases ++ secondLayoutCases
-    ++ modelCases ++ nameCases ++ renumberCases ++ handedCases ++ callCases
+    ++ modelCases ++ nameCases ++ printableCases ++ renumberCases ++ handedCases ++ callCases

@@ -11,14 +11,14 @@ use Rattle.number.specs.declared.NumberRead.{NumberRead}
 use Rattle.number.specs.declared.NumberRead.the-variants.{Number, Refused}
 use Rattle.number.proofs.Laws.{read-within}
 use Rattle.model.specs.Limits.{leastEdition, mostEdition, mostThreads, mostAddresses, mostEvents, mostValue, mostName}
-use Rattle.model.specs.Record.{event, nextWriteOrder, order, bytes, Listing, Rest, head, listing, rest}
+use Rattle.model.specs.Record.{event, nextWriteOrder, order, text, Listing, Rest, head, listing, rest}
 use Rattle.case.specs.Stores.{storeAt}
 use Rattle.reader.specs.Answers.{Stores, Padded, Tabled, Events, headOut, StoresCounted, ListingStored, RestStored, refusedAt}
 use Rattle.reader.specs.declared.HeadRead.the-variants as the
 use Rattle.reader.specs.declared.CountRead.the-variants as counted
 use Rattle.reader.specs.declared.PlaceRead.{PlaceRead}
 use Rattle.reader.specs.declared.PlaceRead.the-variants as place
-use Rattle.reader.proofs.Forward.{gone, forward-bytes}
+use Rattle.reader.proofs.Forward.{gone, forward-text}
 use Rattle.reader.proofs.Filling.{Done, stop-of, next-of}
 
 pub up-to-most : (s : List ℕ) (at hi v p : ℕ) (r : NumberRead) → r ≡ Number v p → r ≡ readNumber s at hi → v ≤ hi
@@ -121,20 +121,20 @@ module _ (s : List ℕ) (at n m k : ℕ) (ks as′ : List ℕ) (r₁ : PlaceRead
       no-length S r₃ f x p e u g = rw (w₁ .is, w₂ .is, number-stop r₃ _ f x p (ap numberOut e) u g) refl
 
       module _ (r₃ : NumberRead) (i p₃ : ℕ) (e₃ : r₃ ≡ readNumber s p₂ mostName) (u₃ : r₃ ≡ Number i p₃)
-          (r₄ : PlaceRead) (name : List ℕ) (g₄ : Stores (Padded mostName name) (bytes i s p₃) r₄) where
+          (r₄ : PlaceRead) (name : List ℕ) (g₄ : Stores (Padded mostName name) (text i s p₃) r₄) where
         w₃ : upTo mostName s p₂ ≡ next i p₃
         unfolding upTo
         w₃ = ap numberOut (sym e₃ ∙ u₃)
 
         pub no-name : (S : Rest → Type 0) (f g : Refusal) → r₄ ≡ place.Refused f → g ≡ refusedAt r₄ → StoresCounted (λ t. length (t .name)) S (rest n m k (storeAt ks as′) s at) (counted.Refused g)
         unfolding rest
-        no-name S f g u e = rw (w₁ .is, w₂ .is, w₃, place-stop (Padded mostName name) (bytes i s p₃) r₄ f g g₄ u e) refl
+        no-name S f g u e = rw (w₁ .is, w₂ .is, w₃, place-stop (Padded mostName name) (text i s p₃) r₄ f g g₄ u e) refl
 
-        rest-of : (p₄ : ℕ) → Done (Padded mostName name) (bytes i s p₃) p₄
+        rest-of : (p₄ : ℕ) → Done (Padded mostName name) (text i s p₃) p₄
             → StoresCounted (λ t. length (t .name)) (RestStored ws rows name) (rest n m k (storeAt ks as′) s at) (counted.Count i p₄)
         unfolding rest
         rest-of p₄ d = rw (w₁ .is, w₂ .is, w₃, d .is)
-            (ap (λ (x : ℕ). counted.Count x p₄) (sym (gone (forward-bytes i) p₃ (d .what) p₄ (d .is) .holds .0)), record { writes = w₁ .stored; orders = w₂ .stored; name = d .stored })
+            (ap (λ (x : ℕ). counted.Count x p₄) (sym (gone (forward-text i) p₃ (d .what) p₄ (d .is) .holds .0)), record { writes = w₁ .stored; orders = w₂ .stored; name = d .stored })
 
         pub whole-rest : (p₄ : ℕ) → r₄ ≡ place.Next p₄ → StoresCounted (λ t. length (t .name)) (RestStored ws rows name) (rest n m k (storeAt ks as′) s at) (counted.Count i p₄)
-        whole-rest p₄ u = rest-of p₄ (next-of (Padded mostName name) (bytes i s p₃) r₄ p₄ g₄ u)
+        whole-rest p₄ u = rest-of p₄ (next-of (Padded mostName name) (text i s p₃) r₄ p₄ g₄ u)

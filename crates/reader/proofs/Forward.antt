@@ -9,12 +9,13 @@ use lib.Dec.{leb, ltb}
 use lib.ListN.{length, take, drop, length-append, length-drop}
 use lib.Seq.{length-take-le}
 use borrow.Author.Tests.{leb-true, ltb-true, ltb-false}
+use Rattle.finite.specs.Lists.{every}
 use Rattle.number.specs.Number.{Raw, got, short, wrong, groups, readGroups, finish, readNumber}
 use Rattle.number.specs.declared.NumberRead.the-variants.{Number, Refused}
 use Rattle.number.specs.Reader.{Out, stop, next, Reader, give, _>>=_, onward, tested, unless, turns, another, times, numberOut, upTo, within, below, under}
 use Rattle.model.specs.Limits.{leastEdition, mostEdition, second, mostThreads, mostAddresses, mostEvents, mostDependencies, mostValue, mostName}
-use Rattle.model.specs.Case.{Event, Dependency, bare, mostKind, mostClass}
-use Rattle.model.specs.Record.{event, dependency, dependencyGood, dependencyRank, leastAfter, risingDependency, risingDependencies, dependencies, unlisted, writeOrder, nextWriteOrder, pair, rank, risingPair, nextPair, noPairs, order, bytes, head, listing, rest, case, storeTo}
+use Rattle.model.specs.Case.{Event, Dependency, bare, mostKind, mostClass, printable}
+use Rattle.model.specs.Record.{event, dependency, dependencyGood, dependencyRank, leastAfter, risingDependency, risingDependencies, dependencies, unlisted, writeOrder, nextWriteOrder, pair, rank, risingPair, nextPair, noPairs, order, bytes, printableFront, printed, text, head, listing, rest, case, storeTo}
 use Rattle.laws.proofs.Fits.{DependencyFits}
 use Rattle.reader.specs.Answers.{Counts}
 
@@ -197,7 +198,7 @@ module _ {s : List ℕ} where
       forward-bind (forward-up-to (k * k)) (λ i p hi.
       forward-last _ Any (forward-turns (nextPair k) (λ o. forward-last _ Any (forward-rising-pair k (o .least)) (λ q p hq. tt)) i (noPairs k)) (λ o p ho. tt))
 
-  pub forward-bytes : (i : ℕ) → Forward s (bytes i) (λ w p. (length w ≡ i) × AtEnd s w p)
+  forward-bytes : (i : ℕ) → Forward s (bytes i) (λ w p. (length w ≡ i) × AtEnd s w p)
   unfolding bytes
   forward-bytes i = record { from = λ at. go at (leb (at + i) (length s)) refl }
     where
@@ -208,6 +209,18 @@ module _ {s : List ℕ} where
           let size : length (take i (drop at s)) ≡ i = length-take-le i (drop at s) (simp length-drop (omega arith)) in
           let back : at + i - i ≡ at = omega arith in
           record { on = omega arith; holds = (size, record { long = omega arith; within = l; bytes = rw (size, back) }) }
+
+  pub forward-text : (i : ℕ) → Forward s (text i) (λ w p. (length w ≡ i) × AtEnd s w p)
+  unfolding text
+  forward-text i = record { from = λ at. go at (bytes i s at) (forward-bytes i .from at) }
+    where
+      go : (at : ℕ) (o : Out (List ℕ)) → Outcome (λ w p. (length w ≡ i) × AtEnd s w p) at o → Outcome (λ w p. (length w ≡ i) × AtEnd s w p) at (printed at o)
+      go at (stop x p) h = tt
+      go at (next w p) h = by (every printable w)
+        where
+          by : (t : Bool) → Outcome (λ w p. (length w ≡ i) × AtEnd s w p) at (cond t (next w p) (stop 23 (at + printableFront w)))
+          by true = h
+          by false = tt
 
   pub forward-head : Forward s head (λ h p. Counts (h .n) (h .m))
   unfolding head
@@ -231,7 +244,7 @@ module _ {s : List ℕ} where
       forward-bind (forward-turns (nextWriteOrder k mine) (λ ws. forward-another (forward-write-order k (mine (length ws))) ws) m []) (λ writes p _.
       forward-bind (forward-times (forward-order k) n) (λ orders p _.
       forward-bind (forward-up-to mostName) (λ i p _.
-      forward-last _ (λ t p. AtEnd s (t .name) p) (forward-bytes i) (λ name p h. h .1))))
+      forward-last _ (λ t p. AtEnd s (t .name) p) (forward-text i) (λ name p h. h .1))))
 
   pub forward-case : Forward s case (λ c p. AtEnd s (c .name) p)
   unfolding case

@@ -6,7 +6,7 @@ ghost use lib.ListN.{length, replicate};
 ghost use Rattle.number.specs.Reader.{times, turns, upTo, numberOut, stop, next};
 ghost use Rattle.bits.specs.Bit.{bit};
 ghost use Rattle.model.specs.Limits.{mostThreads, mostAddresses, mostEvents, mostDependencies, mostValue, mostName};
-ghost use Rattle.model.specs.Record.{event, risingDependency, risingDependencies, dependencies as dependenciesOf, risingPair, order, unlisted, writeOrder, nextWriteOrder, bytes as nameBytes, head as headOf, listing as listingOf, rest as restOf, case as caseAt, read};
+ghost use Rattle.model.specs.Record.{event, risingDependency, risingDependencies, dependencies as dependenciesOf, risingPair, order, unlisted, writeOrder, nextWriteOrder, text, head as headOf, listing as listingOf, rest as restOf, case as caseAt, read};
 ghost use Rattle.model.specs.Answers.{name as nameOf, namePart};
 ghost use Rattle.case.specs.Held.{goodAt};
 ghost use Rattle.case.specs.Stores.{storeAt};
@@ -483,11 +483,11 @@ fn read_writes(
     PlaceRead::Next(place)
 }
 
-// Reads a name of i bytes into an array that holds zeros.
+// Reads a name of i bytes into an array that holds zeros: 1 where the bytes end, else 23 at the first that is not printable.
 fn read_name(bytes: &[u8], at: usize, i: usize, name: &mut [u8; Case::MOST_NAME]) -> PlaceRead
     requires { ⌜ i ≤ mostName ⌝ }
     requires { ⌜ now name ≡ replicate mostName 0 ⌝ }
-    ensures { λ r. ⌜ Stores (Padded mostName (now (name .exit))) (nameBytes i (now (bytes .entry)) at) r ⌝ }
+    ensures { λ r. ⌜ Stores (Padded mostName (now (name .exit))) (text i (now (bytes .entry)) at) r ⌝ }
 {
     if bytes.len() < at {
         return PlaceRead::Refused(Refusal {
@@ -503,7 +503,14 @@ fn read_name(bytes: &[u8], at: usize, i: usize, name: &mut [u8; Case::MOST_NAME]
     }
     let mut j: usize = 0;
     while j < i {
-        name[j] = bytes[at + j];
+        let b = bytes[at + j];
+        if !case::printable(b) {
+            return PlaceRead::Refused(Refusal {
+                number: 23,
+                place: at + j,
+            });
+        }
+        name[j] = b;
         j += 1;
     }
     PlaceRead::Next(at + i)

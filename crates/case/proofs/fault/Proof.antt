@@ -1,6 +1,6 @@
 -- `case::fault` meets its contract. Assumes nothing.
 use borrow.Author.Needs.{needs}
-use Rattle.case.proofs.Means.{bad-head, few-addresses, bad-initial, many-events, bad-listing, bad-links, bad-writes, long-name, no-fault}
+use Rattle.case.proofs.Means.{bad-head, few-addresses, bad-initial, many-events, bad-listing, bad-links, bad-writes, that-name}
 use Rattle.case.proofs.fault.Statement.{statement}
 use Rattle.case.proofs.fault.Tie as tie
 
@@ -19,5 +19,5 @@ fault-spec =
     (λ c. search bad-links)
     (λ c κs. (search needs, search few-addresses))
     (λ c. search bad-writes)
-    (λ c. search long-name)
-    (λ c. search no-fault))
+    (λ c κs. search needs)
+    (λ c. search that-name))

@@ -1,18 +1,11 @@
 -- `litmus::renumber_case` meets its contract. Assumes nothing.
 use mathlib.Core.Path.{sym, _∙_}
 use borrow.Author.Needs.{needs}
-use Rattle.model.specs.Limits.{mostName}
-use Rattle.laws.proofs.Fits.{Bytes}
 use Rattle.case.proofs.Bounds.{sound}
 use Rattle.case.proofs.Shape.{fits-case}
-use Rattle.litmus.proofs.Bytes.{array-bytes}
 use Rattle.litmus.proofs.Given.{renumbered-sound, case-done, case-misfit, case-faulty}
 use Rattle.litmus.proofs.renumber_case.Statement.{statement}
 use Rattle.litmus.proofs.renumber_case.Tie as tie
-
--- the name is the struct's sixteenth field
-named : (c : tie.Start) → Bytes (c .args .c .name)
-named c = array-bytes mostName (c .args .c .name) _ (c .good .0 .1 .1 .1 .1 .1 .1 .1 .1 .1 .1 .1 .1 .1 .1 .1 .1 .1 .0)
 
 relabel-requires : tie.Need-relabel-requires
 relabel-requires c κs =
@@ -23,7 +16,7 @@ size-requires : tie.Need-size-requires
 size-requires c κs =
     let there = c .before in
     let start = there .before .before in
-    renumbered-sound _ (fits-case _ (named (start .before .before)) (sym (start .before .fault .ensures) ∙ start .if1 .taken)) _ _ _
+    renumbered-sound _ (fits-case _ (sym (start .before .fault .ensures) ∙ start .if1 .taken)) _ _ _
     (sym (there .before .fitting .ensures) ∙ there .if2 .taken) (c .relabel .ensures)
 
 returns : tie.Need-returns
@@ -31,7 +24,7 @@ returns c =
     let made = c .before .before in
     let there = made .before in
     let start = there .before .before in
-    case-done _ _ _ (sym (start .before .fault .ensures) ∙ start .if1 .taken) (named (start .before .before))
+    case-done _ _ _ (sym (start .before .fault .ensures) ∙ start .if1 .taken)
     (sym (there .before .fitting .ensures) ∙ there .if2 .taken) _ (made .relabel .ensures) _ (c .before .size .ensures) _ (c .finished .ensures)
 
 returns-2 : tie.Need-returns-2

@@ -1,6 +1,6 @@
 use Prim.Native.Nat.{_-_}
 use borrow.Author.Needs.{needs}
-use Rattle.reader.proofs.Names.{name-past, name-short, Naming, naming-begun, naming-next, naming-all}
+use Rattle.reader.proofs.Names.{name-past, name-short, Naming, naming-begun, naming-bad, naming-next, naming-all}
 use Rattle.reader.proofs.read_name.Statement.{statement}
 use Rattle.reader.proofs.read_name.Tie as tie
 
@@ -22,6 +22,9 @@ read-name-spec =
     (λ c. search naming-begun)
     (λ c. search needs)
     (λ c. search needs)
+    (λ c κs. search needs)
+    (λ c. search needs)
+    (λ c. search naming-bad)
     (λ c. search needs)
     (λ c. search needs)
     (λ c. search needs)
