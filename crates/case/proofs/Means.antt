@@ -16,6 +16,7 @@ use Rattle.model.specs.Case.{Event, Dependency, noEvent, store, bare, printable
 use Rattle.model.specs.Rules.{orElse}
 use Rattle.model.specs.Record.{member, storeTo}
 use Rattle.model.specs.Fault.{eventGood, firstFault, dependencyFault, writeFault, writesFault, nameFault, fault}
+use Rattle.laws.proofs.AnyNames.{else-first}
 use Rattle.case.specs.declared.Case.{Case as Held}
 use Rattle.case.specs.Held.{eventOf, eventsOf, linkCount, linksOf, goodAt, linksFault, caseOf}
 use Rattle.case.specs.Stores.{storeAt, writesAt}
@@ -72,10 +73,6 @@ else-and : (a b d : Bool) (x y : ℕ) → orElse a x (orElse b x (orElse d x y))
 else-and true true d x y = refl
 else-and true false d x y = refl
 else-and false b d x y = refl
-
-else-first : (t : Bool) (x y : ℕ) → orElse t 3 (firstFault x y) ≡ firstFault (orElse t 3 x) y
-else-first true x y = refl
-else-first false x y = refl
 
 module _ (c : Held) where
   abbrev head : Bool

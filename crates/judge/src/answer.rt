@@ -2,8 +2,8 @@
 ghost use Prim.Native.Nat.{_≤_};
 ghost use lib.ListN.{length};
 use crate::text::say;
-use crate::text::say_escaped;
 use crate::text::say_number;
+use crate::text::say_printable;
 use crate::text::say_refusal;
 use crate::text::say_rule;
 use case::Case;
@@ -92,13 +92,15 @@ fn say_verdict(record: &[u8], model: u64, addresses: usize) {
     say_rule(answer.number);
 }
 
-fn say_name(name: &[u8]) {
+// The name of the record at the start of the bytes.
+fn say_name(bytes: &[u8]) {
+    let name = litmus::name(bytes);
     if name.len() == 0 {
         say(b", without a name");
         return;
     }
     say(b": ");
-    say_escaped(name);
+    say_printable(name);
 }
 
 // How many dependencies a case of edition 2 has.
@@ -111,7 +113,7 @@ fn say_edition(c: Case) {
 
 // A record that was read, and starts at the byte of the input.
 fn say_record(bytes: &[u8], c: Case, length: usize, from: u64) {
-    say_name(litmus::name(bytes));
+    say_name(bytes);
     say(b"\n  place    byte ");
     say_number(from);
     say(b", ");

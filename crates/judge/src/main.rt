@@ -21,9 +21,11 @@ fn say_usage() {
     );
     say(b"memory or the lowest rule that it breaks.\n");
     say(
-        b"Bytes of a name that don't print are shown as \\xHH, a backslash as two. After a record that\n",
+        b"After a record that can't be read the rest of that input is left, since the next record\n",
     );
-    say(b"can't be read the rest of that input is left, since the next record can't be found.\n");
+    say(
+        b"can't be found. Bytes of FILE that don't print are shown as \\xHH, a backslash as two.\n",
+    );
 }
 
 fn judge_path(path: &[u8]) {

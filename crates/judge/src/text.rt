@@ -1,4 +1,8 @@
 // Words on standard output.
+ghost use mathlib.Core.Path.{_≡_};
+ghost use mathlib.Core.Bool.{true};
+ghost use Rattle.finite.specs.Lists.{every};
+ghost use Rattle.model.specs.Case.{printable};
 use libc::STDOUT_FILENO;
 
 pub fn say(text: &[u8]) {
@@ -9,30 +13,35 @@ pub fn say_number(n: u64) {
     io::print_decimal(STDOUT_FILENO, n);
 }
 
-// One byte of a name: as it stands if it prints, else as \xHH; a backslash as two.
+// One byte of a path: as it stands if it prints, else as \xHH; a backslash as two.
 fn say_byte(b: u8) {
     if b == b'\\' {
         say(b"\\\\");
         return;
     }
-    if 32 <= b {
-        if b <= 126 {
-            let one = [b; 1];
-            say(&one);
-            return;
-        }
+    if case::printable(b) {
+        let one = [b; 1];
+        say(&one);
+        return;
     }
     say(b"\\x");
     io::print_hex(STDOUT_FILENO, b as u64, 2);
 }
 
-// A name, so that none of its bytes reaches a terminal unescaped.
-pub fn say_escaped(name: &[u8]) {
+// A path, so that none of its bytes reaches a terminal unescaped.
+pub fn say_escaped(path: &[u8]) {
     let mut i: usize = 0;
-    while i < name.len() {
-        say_byte(name[i]);
+    while i < path.len() {
+        say_byte(path[i]);
         i += 1;
     }
+}
+
+// Bytes of the input, which are printable and so safe for a terminal as they stand.
+pub fn say_printable(text: &[u8])
+    requires { ⌜ every printable (now text) ≡ true ⌝ }
+{
+    say(text);
 }
 
 // What a refusal of a record's bytes means.
@@ -44,6 +53,7 @@ pub fn say_refusal(number: u32) {
         4 => say(
             b"a dependency is unfit, a write order entry is not a store to that address or was listed before, or a dependency or a pair is not above the one before",
         ),
+        23 => say(b"a byte of the name is not printable (32 to 126)"),
         _ => say(b"no such refusal of bytes"),
     }
 }

@@ -20,3 +20,4 @@ pub mod Claim
 pub mod Corollaries
 pub mod RoundTrip
 pub mod FirstAnswers
+pub mod AnyNames

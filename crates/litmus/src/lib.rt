@@ -41,7 +41,7 @@ const NOT_TRANSITIVE: u32 = 11;
 
 const MODELS: u64 = 2;
 
-// Reads a record: 0, its length and its case, or 1 to 4 and the place.
+// Reads a record: 0, its length and its case, or 1 to 4 or 23 and the place.
 pub fn read(bytes: &[u8]) -> CaseAnswer
     ensures { λ r. ⌜ r ≡ caseShown (readRecord (now (bytes .entry))) ⌝ }
 {
@@ -56,7 +56,7 @@ pub fn read(bytes: &[u8]) -> CaseAnswer
     CaseAnswer { answer, case }
 }
 
-// Judges a record under model 0 (PPCw) or 1 (PPCs): 7 for any other; the record's 1 to 4; 11 to 18; or 0 with the finals.
+// Judges a record under model 0 (PPCw) or 1 (PPCs): 7 for any other; the record's 1 to 4 or 23; 11 to 18; or 0 with the finals.
 pub fn judge(bytes: &[u8], model: u64) -> Answer
     ensures { λ r. ⌜ r ≡ shown (judgeRecord model (now (bytes .entry))) ⌝ }
 {
@@ -71,7 +71,7 @@ pub fn judge(bytes: &[u8], model: u64) -> Answer
     answers::refused(reading.number, reading.place)
 }
 
-// The same of a case: 3 or 4 with place 0 where a field of it is bad. The length is that of its record.
+// The same of a case: 3, 4 or 23 with place 0 where a field of it is bad. The length is that of its record.
 pub fn judge_case(c: Case, model: u64) -> Answer
     ensures { λ r. ⌜ r ≡ shown (judgeCase model (caseOf c)) ⌝ }
 {
@@ -86,7 +86,7 @@ pub fn judge_case(c: Case, model: u64) -> Answer
     answers::refused(fault, 0)
 }
 
-// Writes a case's record into the buffer from a place on: 3 or 4 with place 0 for a bad field, then 6.
+// Writes a case's record into the buffer from a place on: 3, 4 or 23 with place 0 for a bad field, then 6.
 pub fn write(c: Case, out: &mut [u8], at: usize) -> Answer
     ensures { λ r. ⌜ r ≡ shown (writeCase (caseOf c) (now (out .entry)) at .answer) ⌝ }
     ensures { λ r. ⌜ now (out .exit) ≡ writeCase (caseOf c) (now (out .entry)) at .buffer ⌝ }
@@ -109,7 +109,7 @@ fn fitting(c: Case, q: u64, r: u64) -> bool
 }
 
 // Renumbers a record, threads by the permutation q and addresses by r, into another buffer from a place on: the record's
-// 1 to 4; 5 for a permutation that doesn't fit; 6 for too little room; or 0 and the record's length.
+// 1 to 4 or 23; 5 for a permutation that doesn't fit; 6 for too little room; or 0 and the record's length.
 pub fn renumber(bytes: &[u8], q: u64, r: u64, out: &mut [u8], at: usize) -> Answer
     ensures { λ a. ⌜ a ≡ shown (renumberRecord q r (now (bytes .entry)) (now (out .entry)) at .answer) ⌝ }
     ensures { λ a. ⌜ now (out .exit) ≡ renumberRecord q r (now (bytes .entry)) (now (out .entry)) at .buffer ⌝ }
@@ -125,7 +125,7 @@ pub fn renumber(bytes: &[u8], q: u64, r: u64, out: &mut [u8], at: usize) -> Answ
     answers::refused(reading.number, reading.place)
 }
 
-// Renumbers a case: 3 or 4 with place 0 for a bad field; 5; or 0, the length of its record and the case.
+// Renumbers a case: 3, 4 or 23 with place 0 for a bad field; 5; or 0, the length of its record and the case.
 pub fn renumber_case(c: Case, q: u64, r: u64) -> CaseAnswer
     ensures { λ a. ⌜ a ≡ caseShown (renumberCase q r (caseOf c)) ⌝ }
 {
@@ -157,7 +157,7 @@ pub fn name<'a>(bytes: &'a [u8]) -> &'a [u8]
     reader::name(bytes)
 }
 
-// The name beside `judge`: empty under 1 to 4 and 7.
+// The name beside `judge`: empty under 1 to 4, 7 and 23.
 pub fn judged_name<'a>(bytes: &'a [u8], model: u64) -> &'a [u8]
     ensures { λ r. ⌜ now r ≡ judgedName model (now (bytes .entry)) ⌝ }
 {
@@ -182,7 +182,7 @@ fn renumbers(bytes: &[u8], q: u64, r: u64, room: usize, at: usize) -> bool
     false
 }
 
-// The name beside `renumber` into a buffer of so many bytes: empty under 1 to 6.
+// The name beside `renumber` into a buffer of so many bytes: empty under 1 to 6 and 23.
 pub fn renumbered_name<'a>(bytes: &'a [u8], q: u64, r: u64, room: usize, at: usize) -> &'a [u8]
     ensures { λ s. ⌜ now s ≡ renumberedName q r (now (bytes .entry)) room at ⌝ }
 {

@@ -100,7 +100,8 @@ renumberRecord q r s buffer at = putOut (renumberOut q r (read s)) buffer at
 unfoldable pub renumberCase : (q r : ℕ) → Case → Out Case
 renumberCase q r c = renumberOut q r (handed c)
 
--- The name: 01: "handed back as the record's own bytes, or as an empty part under 1 to 7": where it stands in the record
+-- The name: 01: "handed back as the record's own bytes, or as an empty part under 1 to 7"; 02 (xi): under 23 "no name": where it
+-- stands in the record
 pub record Part : Type 0 where
   pub at : ℕ
   pub length : ℕ
@@ -123,6 +124,6 @@ abbrev pub nameUnder : (number : ℕ) → List ℕ → List ℕ
 nameUnder zero s = name s
 nameUnder (suc x) s = []
 
--- beside renumbering into a buffer of size bytes: none under 1 to 6
+-- beside renumbering into a buffer of size bytes: none under 1 to 6 and 23
 unfoldable pub renumberedName : (q r : ℕ) → List ℕ → (size at : ℕ) → List ℕ
 renumberedName q r s size at = nameUnder (renumberRecord q r s (replicate size 0) at .answer .number) s

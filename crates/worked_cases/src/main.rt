@@ -1,43 +1,16 @@
 // Runs the worked cases of paper 01 ("Cases on the bench") and of paper 02 through the compiled library and prints a line for
 // each: the answers under PPCw and PPCs, and whether the calls on the case that was read agree with those on the record.
 mod cases;
+mod lines;
+mod names;
 mod records;
 mod text;
 
-use cases::case_agrees;
+use lines::judged;
+use lines::renumbered;
+use names::unprintable_names;
 use text::say;
-use text::say_answer;
-use text::say_bytes;
 use text::say_number;
-
-const PPCW: u64 = 0;
-
-const PPCS: u64 = 1;
-
-// Whether the calls on the case read from the record agree with those on its bytes.
-fn say_agreement(record: &[u8]) {
-    let answer = litmus::read(record).answer;
-    if answer.number != 0 {
-        say(b"; no case");
-        return;
-    }
-    if case_agrees(record) {
-        say(b"; calls on the case: same");
-        return;
-    }
-    say(b"; calls on the case: DIFFERENT");
-}
-
-// A record judged under both models, and its case beside it.
-fn judged(name: &[u8], record: &[u8]) {
-    say(name);
-    say(b": PPCw ");
-    say_answer(litmus::judge(record, PPCW));
-    say(b"; PPCs ");
-    say_answer(litmus::judge(record, PPCS));
-    say_agreement(record);
-    say(b"\n");
-}
 
 fn orders_and_values() {
     judged(b"Small record", &records::SMALL);
@@ -123,18 +96,6 @@ fn number_forms() {
     judged(b"Initial value 80 80 04", &records::VALUE_65536);
 }
 
-// The small record renumbered into a buffer of 23 bytes from place 2.
-fn renumbered(name: &[u8], threads: u64, addresses: u64) {
-    let mut space = [0xEEu8; 23];
-    let out: &mut [u8] = &mut space;
-    say(name);
-    say(b": ");
-    say_answer(litmus::renumber(&records::SMALL, threads, addresses, out, 2));
-    say(b"; buffer");
-    say_bytes(out);
-    say(b"\n");
-}
-
 fn composed(first: u64, then: u64) {
     say(b"First ");
     say_number(first);
@@ -162,7 +123,8 @@ fn main() {
     unfit_dependencies();
     ranges();
     number_forms();
-    renumbered(b"Small record, addresses by 6", 0, 6);
-    renumbered(b"Small record, addresses by 1", 0, 1);
+    unprintable_names();
+    renumbered(b"Small record, addresses by 6", &records::SMALL, 0, 6, 2);
+    renumbered(b"Small record, addresses by 1", &records::SMALL, 0, 1, 2);
     permutations();
 }

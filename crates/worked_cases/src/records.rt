@@ -240,6 +240,35 @@ pub const NAME_33: [u8; 51] = *b"\x01\x01\x01\x00\
     \x01\x00\x01\
     \x21aaaaaaaaaaaaaaaaaaaaaaaaaaaaaaaaa";
 
+// The small record, its name the byte 0.
+pub const UNPRINTABLE: [u8; 19] = *b"\x01\x01\x01\x00\
+    \x02\x01\x00\x00\x01\x00\x00\x00\x01\
+    \x00\
+    \x01\x00\x01\
+    \x01\x00";
+
+// The same with a load of 2.
+pub const UNPRINTABLE_LOAD_2: [u8; 19] = *b"\x01\x01\x01\x00\
+    \x02\x01\x00\x00\x01\x00\x00\x00\x02\
+    \x00\
+    \x01\x00\x01\
+    \x01\x00";
+
+// The same in edition 2.
+pub const UNPRINTABLE_SECOND: [u8; 20] = *b"\x02\x01\x01\x00\
+    \x02\x01\x00\x00\x01\x00\x00\x00\x01\
+    \x00\
+    \x00\
+    \x01\x00\x01\
+    \x01\x00";
+
+// The small record, its name of two bytes cut short behind a byte 0.
+pub const UNPRINTABLE_SHORT: [u8; 19] = *b"\x01\x01\x01\x00\
+    \x02\x01\x00\x00\x01\x00\x00\x00\x01\
+    \x00\
+    \x01\x00\x01\
+    \x02\x00";
+
 // SB: Dekker's events with lwsyncs, each thread's order its own three events.
 pub const SB_LWSYNC: [u8; 46] = *b"\x02\x02\x02\x00\x00\
     \x06\x01\x00\x00\x01\x03\x00\x00\x00\x01\x00\x01\x01\x01\x01\x03\x01\x00\x01\x00\x00\

@@ -1,0 +1,148 @@
+// Names with bytes that are not printable (02 (xi)), in records and in cases handed without bytes.
+use crate::lines::judged;
+use crate::lines::renumbered;
+use crate::records;
+use crate::text::say;
+use crate::text::say_answer;
+use crate::text::say_bytes;
+use crate::text::say_number;
+use case::Case;
+
+// The small record with a name of three bytes.
+fn small_named(first: u8, middle: u8, last: u8) -> [u8; 21] {
+    [
+        1,
+        1,
+        1,
+        0,
+        2,
+        1,
+        0,
+        0,
+        1,
+        0,
+        0,
+        0,
+        1,
+        0,
+        1,
+        0,
+        1,
+        3,
+        first,
+        middle,
+        last,
+    ]
+}
+
+fn say_place(b: u8, place: &[u8]) {
+    say(b"Name with byte ");
+    say_number(b as u64);
+    say(place);
+}
+
+// The byte as the first, the middle and the last of a name.
+fn named_with(b: u8) {
+    say_place(b, b" first");
+    judged(b"", &small_named(b, b'a', b'a'));
+    say_place(b, b" in the middle");
+    judged(b"", &small_named(b'a', b, b'a'));
+    say_place(b, b" last");
+    judged(b"", &small_named(b'a', b'a', b));
+}
+
+// 23 and the other refusals of a record.
+fn beside_others() {
+    judged(
+        b"Unprintable name, load 2 breaks rule 16",
+        &records::UNPRINTABLE_LOAD_2,
+    );
+    judged(
+        b"Unprintable name in edition 2",
+        &records::UNPRINTABLE_SECOND,
+    );
+    judged(b"Unprintable name cut short", &records::UNPRINTABLE_SHORT);
+    say(b"Unprintable name, model 2: ");
+    say_answer(litmus::judge(&records::UNPRINTABLE, 2));
+    say(b"\n");
+    renumbered(
+        b"Unprintable name, renumbered",
+        &records::UNPRINTABLE,
+        0,
+        0,
+        2,
+    );
+    renumbered(
+        b"Unprintable name, threads by 6",
+        &records::UNPRINTABLE,
+        6,
+        0,
+        2,
+    );
+    renumbered(
+        b"Unprintable name, addresses by 6",
+        &records::UNPRINTABLE,
+        0,
+        6,
+        2,
+    );
+    renumbered(
+        b"Unprintable name, too little room",
+        &records::UNPRINTABLE,
+        0,
+        0,
+        5,
+    );
+    say(b"Bytes of the name handed back: ");
+    say_number(litmus::name(&records::UNPRINTABLE).len() as u64);
+    say(b"\n");
+}
+
+// The small record's case with a byte 0 for its name.
+fn unprintable_case() -> Case {
+    let reading = litmus::read(&records::SMALL);
+    let mut c = reading.case;
+    c.name[0] = 0;
+    c
+}
+
+fn written(name: &[u8], c: Case, at: usize) {
+    let mut space = [0xEEu8; 23];
+    let out: &mut [u8] = &mut space;
+    say(name);
+    say(b": ");
+    say_answer(litmus::write(c, out, at));
+    say(b"; buffer");
+    say_bytes(out);
+    say(b"\n");
+}
+
+// The same of a case.
+fn in_cases() {
+    let c = unprintable_case();
+    say(b"Case with an unprintable name: ");
+    say_answer(litmus::judge_case(c, 0));
+    say(b"; model 2: ");
+    say_answer(litmus::judge_case(c, 2));
+    say(b"; threads by 24: ");
+    let renumbered = litmus::renumber_case(c, 24, 0);
+    say_answer(renumbered.answer);
+    say(b"\n");
+    written(b"Case with an unprintable name, written", c, 2);
+    written(
+        b"Case with an unprintable name, written, too little room",
+        c,
+        5,
+    );
+}
+
+pub fn unprintable_names() {
+    named_with(31);
+    named_with(32);
+    named_with(126);
+    named_with(127);
+    named_with(0);
+    named_with(255);
+    beside_others();
+    in_cases();
+}
