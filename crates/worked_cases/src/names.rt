@@ -7,6 +7,7 @@ use crate::text::say_answer;
 use crate::text::say_bytes;
 use crate::text::say_number;
 use case::Case;
+use litmus::Answer;
 
 // The small record with a name of three bytes.
 fn small_named(first: u8, middle: u8, last: u8) -> [u8; 21] {
@@ -35,6 +36,13 @@ fn small_named(first: u8, middle: u8, last: u8) -> [u8; 21] {
     ]
 }
 
+fn answered(name: &[u8], answer: Answer) {
+    say(name);
+    say(b": ");
+    say_answer(answer);
+    say(b"\n");
+}
+
 fn say_place(b: u8, place: &[u8]) {
     say(b"Name with byte ");
     say_number(b as u64);
@@ -51,8 +59,8 @@ fn named_with(b: u8) {
     judged(b"", &small_named(b'a', b'a', b));
 }
 
-// 23 and the other refusals of a record.
-fn beside_others() {
+// 23 beside the other answers of a judging.
+fn judged_beside() {
     judged(
         b"Unprintable name, load 2 breaks rule 16",
         &records::UNPRINTABLE_LOAD_2,
@@ -62,39 +70,23 @@ fn beside_others() {
         &records::UNPRINTABLE_SECOND,
     );
     judged(b"Unprintable name cut short", &records::UNPRINTABLE_SHORT);
-    say(b"Unprintable name, model 2: ");
-    say_answer(litmus::judge(&records::UNPRINTABLE, 2));
-    say(b"\n");
-    renumbered(
-        b"Unprintable name, renumbered",
-        &records::UNPRINTABLE,
-        0,
-        0,
-        2,
+    answered(
+        b"Unprintable name, model 2",
+        litmus::judge(&records::UNPRINTABLE, 2),
     );
-    renumbered(
-        b"Unprintable name, threads by 6",
-        &records::UNPRINTABLE,
-        6,
-        0,
-        2,
-    );
-    renumbered(
-        b"Unprintable name, addresses by 6",
-        &records::UNPRINTABLE,
-        0,
-        6,
-        2,
-    );
-    renumbered(
-        b"Unprintable name, too little room",
-        &records::UNPRINTABLE,
-        0,
-        0,
-        5,
-    );
+}
+
+// 23 beside the other refusals of a renumbering.
+fn renumbered_beside(record: &[u8]) {
+    renumbered(b"Unprintable name, renumbered", record, 0, 0, 2);
+    renumbered(b"Unprintable name, threads by 6", record, 6, 0, 2);
+    renumbered(b"Unprintable name, addresses by 6", record, 0, 6, 2);
+    renumbered(b"Unprintable name, too little room", record, 0, 0, 5);
+}
+
+fn handed_back(record: &[u8]) {
     say(b"Bytes of the name handed back: ");
-    say_number(litmus::name(&records::UNPRINTABLE).len() as u64);
+    say_number(litmus::name(record).len() as u64);
     say(b"\n");
 }
 
@@ -118,16 +110,17 @@ fn written(name: &[u8], c: Case, at: usize) {
 }
 
 // The same of a case.
-fn in_cases() {
-    let c = unprintable_case();
-    say(b"Case with an unprintable name: ");
-    say_answer(litmus::judge_case(c, 0));
-    say(b"; model 2: ");
-    say_answer(litmus::judge_case(c, 2));
-    say(b"; threads by 24: ");
-    let renumbered = litmus::renumber_case(c, 24, 0);
-    say_answer(renumbered.answer);
-    say(b"\n");
+fn case_answers(c: Case) {
+    answered(b"Case with an unprintable name", litmus::judge_case(c, 0));
+    answered(
+        b"Case with an unprintable name, model 2",
+        litmus::judge_case(c, 2),
+    );
+    let moved = litmus::renumber_case(c, 24, 0);
+    answered(
+        b"Case with an unprintable name, threads by 24",
+        moved.answer,
+    );
     written(b"Case with an unprintable name, written", c, 2);
     written(
         b"Case with an unprintable name, written, too little room",
@@ -136,13 +129,19 @@ fn in_cases() {
     );
 }
 
-pub fn unprintable_names() {
+fn name_bytes() {
     named_with(31);
     named_with(32);
     named_with(126);
     named_with(127);
     named_with(0);
     named_with(255);
-    beside_others();
-    in_cases();
+}
+
+pub fn unprintable_names() {
+    name_bytes();
+    judged_beside();
+    renumbered_beside(&records::UNPRINTABLE);
+    handed_back(&records::UNPRINTABLE);
+    case_answers(unprintable_case());
 }
