@@ -16,6 +16,11 @@ pub const PERMUTATION: u32 = 5;
 pub const ROOM: u32 = 6;
 /// No such model.
 pub const MODEL: u32 = 7;
+/// A byte of the name is not printable.
+pub const UNPRINTABLE: u32 = 23;
+
+/// Every number that reading may give.
+pub const OF_READING: [u32; 6] = [0, ENDS, FORM, RANGE, MISPLACED, UNPRINTABLE];
 
 /// Every field that does not apply is 0.
 #[derive(Clone, Copy, Debug, Default, PartialEq, Eq)]

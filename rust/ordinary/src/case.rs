@@ -1,8 +1,8 @@
 //! A case: one candidate execution.
 
-use crate::answer::{MISPLACED, RANGE};
+use crate::answer::{MISPLACED, RANGE, UNPRINTABLE};
 use crate::limits::{
-    ADDRESSES, DEPENDENCIES, EDITIONS, EVENTS, FIRST, NAME, SECOND, THREADS, VALUE,
+    ADDRESSES, DEPENDENCIES, EDITIONS, EVENTS, FIRST, NAME, PRINTABLE, SECOND, THREADS, VALUE,
 };
 use std::fmt;
 
@@ -310,6 +310,7 @@ impl Case {
             self.dependencies_fault(),
             self.write_orders_fault(),
             range_fault(self.name.len() <= NAME),
+            self.name_fault(),
         ];
         faults.into_iter().find(|&f| f != 0).unwrap_or(0)
     }
@@ -371,6 +372,18 @@ impl Case {
             MISPLACED
         }
     }
+
+    fn name_fault(&self) -> u32 {
+        match unprintable(&self.name) {
+            Some(_) => UNPRINTABLE,
+            None => 0,
+        }
+    }
+}
+
+/// Where in a name the first byte stands that is not printable.
+pub fn unprintable(name: &[u8]) -> Option<usize> {
+    name.iter().position(|byte| !PRINTABLE.contains(byte))
 }
 
 fn range_fault(fits: bool) -> u32 {

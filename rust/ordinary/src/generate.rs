@@ -1,18 +1,21 @@
 //! Random cases and records for the tests and the benchmark.
 
 mod damage;
+mod names;
 mod program;
 mod sparse;
 
 pub use damage::damaged;
+pub use names::{every_byte_of_a_name, printable};
 pub use sparse::{sparse, Duty};
 
 use crate::case::{Case, Event, Kind, Order};
 use crate::limits::{
-    ADDRESSES, DEPENDENCIES, EDITIONS, EVENTS, FIRST, NAME, SECOND, THREADS, VALUE,
+    ADDRESSES, DEPENDENCIES, EDITIONS, EVENTS, FIRST, NAME, PRINTABLE, SECOND, THREADS, VALUE,
 };
 use crate::random::Random;
 use crate::write;
+use names::any_name;
 use program::{any_program, good_dependencies, interleaving, loads, program, reordered};
 use program::{value_in, write_in};
 
@@ -185,7 +188,7 @@ pub fn greatest(edition: u32) -> Case {
     for (a, b) in all.iter().flat_map(|&a| all.iter().map(move |&b| (a, b))) {
         case.orders.iter_mut().for_each(|order| order.insert(a, b));
     }
-    case.name = vec![0; NAME];
+    case.name = vec![*PRINTABLE.end(); NAME];
     case
 }
 
@@ -210,9 +213,7 @@ pub fn any_case(random: &mut Random) -> Case {
         }
         _ => tiny(random),
     };
-    let length = if random.once_in(4) { NAME } else { 3 };
-    let length = random.below(length + 1);
-    case.name = random.bytes(length);
+    case.name = any_name(random);
     case
 }
 

@@ -1,6 +1,7 @@
 //! How much a case may hold. Every limit stands here and nowhere else.
 
 use crate::case::{Class, Kind};
+use std::ops::RangeInclusive;
 
 /// The first edition: no lwsyncs and no dependencies.
 pub const FIRST: u32 = 1;
@@ -20,6 +21,8 @@ pub const DEPENDENCIES: usize = 96;
 pub const VALUE: u32 = 65_535;
 /// Most bytes of a name.
 pub const NAME: usize = 32;
+/// The bytes that may stand in a name: what prints in ASCII.
+pub const PRINTABLE: RangeInclusive<u8> = 32..=126;
 /// Most groups of seven bits in a number.
 pub const GROUPS: usize = 3;
 

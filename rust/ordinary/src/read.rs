@@ -1,7 +1,7 @@
 //! Bytes to a case.
 
-use crate::answer::{Answer, Refusal, ENDS, FORM, MISPLACED, RANGE};
-use crate::case::{Case, Class, Dependency, Event, Kind, Order, Unfit};
+use crate::answer::{Answer, Refusal, ENDS, FORM, MISPLACED, RANGE, UNPRINTABLE};
+use crate::case::{unprintable, Case, Class, Dependency, Event, Kind, Order, Unfit};
 use crate::limits::{ADDRESSES, DEPENDENCIES, EVENTS, FIRST, GROUPS, NAME, SECOND, THREADS, VALUE};
 
 /// A case, and how many bytes its record takes.
@@ -200,6 +200,12 @@ impl Reader<'_> {
             number: ENDS,
             place: start,
         })?;
+        if let Some(at) = unprintable(bytes) {
+            return Err(Refusal {
+                number: UNPRINTABLE,
+                place: start + at,
+            });
+        }
         self.place += length;
         Ok(bytes.to_vec())
     }

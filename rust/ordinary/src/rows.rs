@@ -2,10 +2,11 @@
 //!
 //! It is the benchmark's yardstick: ordinary optimised Rust.
 
-use crate::answer::{Answer, Refusal, ENDS, FORM, MISPLACED, MODEL, RANGE};
+use crate::answer::{Answer, Refusal, ENDS, FORM, MISPLACED, MODEL, RANGE, UNPRINTABLE};
 use crate::case::{Class, Kind};
 use crate::judge::{PPCS, PPCW};
-use crate::limits::{ADDRESSES, DEPENDENCIES, EVENTS, FIRST, GROUPS, NAME, SECOND, THREADS, VALUE};
+use crate::limits::{ADDRESSES, DEPENDENCIES, EVENTS, FIRST, GROUPS, NAME, PRINTABLE, SECOND};
+use crate::limits::{THREADS, VALUE};
 
 type Set = u64;
 
@@ -218,7 +219,12 @@ impl Reader<'_> {
         if self.bytes.len() - self.place < length {
             return refuse(ENDS, self.place);
         }
-        self.place += length;
+        for byte in &self.bytes[self.place..][..length] {
+            if !PRINTABLE.contains(byte) {
+                return refuse(UNPRINTABLE, self.place);
+            }
+            self.place += 1;
+        }
         Ok(())
     }
 }

@@ -1,7 +1,9 @@
 //! How often each number came up.
 
+use crate::answer::{OF_READING, UNPRINTABLE};
 use crate::case::Unfit;
-use crate::judge::{PPCS, PPCW, RULES};
+use crate::generate::printable;
+use crate::judge::{judge, PPCS, PPCW, RULES};
 use crate::limits::{EDITIONS, FIRST, SECOND};
 use crate::read;
 use std::collections::BTreeMap;
@@ -29,6 +31,17 @@ impl Tally {
         }
     }
 
+    /// Counts what judging the bytes gives, and if that is for their name, what it would give for a
+    /// printable one.
+    pub fn add_judged(&mut self, bytes: &[u8], model: u64, number: u32) {
+        let edition = stated_edition(bytes);
+        self.add(heading(edition, model), number);
+        if number == UNPRINTABLE {
+            let behind = judge(&printable(bytes), model).number;
+            self.add(behind_the_name(edition), behind);
+        }
+    }
+
     pub fn times(&self, heading: &str, number: u32) -> usize {
         let row = self.times.get(heading);
         row.and_then(|row| row.get(&number)).copied().unwrap_or(0)
@@ -48,11 +61,14 @@ impl Tally {
     }
 
     /// Fails where judging gave one of its numbers less than `least` times for an edition and a
-    /// model.
+    /// model, or behind an edition's unprintable names less than a tenth of that.
     pub fn assert_judged(&self, least: usize) {
         for edition in EDITIONS {
+            let behind = [0].into_iter().chain(RULES);
+            self.assert_each(behind_the_name(edition), behind, least / 10);
             for model in [PPCW, PPCS] {
-                self.assert_each(heading(edition, model), (0..=4).chain(RULES), least);
+                let numbers = OF_READING.into_iter().chain(RULES);
+                self.assert_each(heading(edition, model), numbers, least);
             }
         }
     }
@@ -94,6 +110,15 @@ pub fn stated_edition(bytes: &[u8]) -> u32 {
         stated
     } else {
         0
+    }
+}
+
+/// The heading of what judging would give for an edition, were the name printable.
+fn behind_the_name(edition: u32) -> &'static str {
+    match edition {
+        FIRST => "edition 1, behind an unprintable name",
+        SECOND => "edition 2, behind an unprintable name",
+        _ => "no edition, behind an unprintable name",
     }
 }
 

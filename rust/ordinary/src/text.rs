@@ -1,6 +1,6 @@
 //! A short readable text to a case, so that people can file cases by hand.
 
-use crate::case::{Case, Class, Dependency, Event, Order};
+use crate::case::{unprintable, Case, Class, Dependency, Event, Order};
 use crate::limits::{ADDRESSES, DEPENDENCIES, EVENTS, FIRST, NAME, SECOND, THREADS, VALUE};
 use std::fmt;
 
@@ -10,7 +10,7 @@ A case is a text of lines such as these; # starts a comment.
 
     edition 2                       optional; if no line says it, 2 with an
                                     lwsync or a dependency, otherwise 1
-    name Dekker                     optional
+    name Dekker                     optional; only printable ASCII characters
     threads 2                       threads are 0 and 1
     addresses x y                   any words; as many addresses as words
     initial x=0 y=0                 optional; an address not named starts at 0
@@ -134,6 +134,12 @@ impl Draft {
     fn take_name(&mut self, name: &str) -> Checked<()> {
         if name.len() > NAME {
             return Err(format!("a name has at most {NAME} bytes"));
+        }
+        // All before an unprintable byte is ASCII, so a character starts there.
+        let odd = unprintable(name.as_bytes()).and_then(|at| name[at..].chars().next());
+        if let Some(odd) = odd {
+            let only = "a name has only printable ASCII characters";
+            return Err(format!("{only}, not {odd:?}"));
         }
         self.case.name = name.as_bytes().to_vec();
         Ok(())
@@ -375,6 +381,7 @@ fn split<'a>(text: &'a str, mark: char, example: &str) -> Checked<(&'a str, &'a 
 #[cfg(test)]
 mod tests {
     use super::*;
+    use crate::limits::PRINTABLE;
 
     const FRONT: &str = "threads 2\naddresses x y\n";
 
@@ -538,5 +545,27 @@ mod tests {
         assert_eq!(twice, "line 4: list each store to x once: events [0]");
         let name = format!("name {}", "n".repeat(NAME + 1));
         assert!(fault(&name).starts_with("line 1: a name has at most"));
+    }
+
+    #[test]
+    fn names_are_printable() {
+        let name = |name: &str| parse(&format!("{FRONT}name {name}")).map(|case| case.name);
+        let all: Vec<u8> = PRINTABLE.filter(|&byte| byte != b'#').collect();
+        for part in all.chunks(NAME) {
+            let part = std::str::from_utf8(part).unwrap().trim();
+            assert_eq!(name(part), Ok(part.into()));
+        }
+        for (odd, shown) in [
+            ("two\twords", r"'\t'"),
+            ("a\u{1f}\tb", r"'\u{1f}'"),
+            ("a\x7f", r"'\u{7f}'"),
+            ("\0a", r"'\0'"),
+            ("na\u{ef}ve\t.", "'\u{ef}'"),
+            ("\u{20ac}", "'\u{20ac}'"),
+            ("a\u{a0}b", r"'\u{a0}'"),
+        ] {
+            let message = format!("a name has only printable ASCII characters, not {shown}");
+            assert_eq!(name(odd), Err(Error { line: 3, message }), "{odd:?}");
+        }
     }
 }

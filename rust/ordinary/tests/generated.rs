@@ -1,12 +1,12 @@
 //! The quick implementation against the plain one, and what the generators promise.
 
-use ordinary::answer::MISPLACED;
+use ordinary::answer::{Refusal, MISPLACED, UNPRINTABLE};
 use ordinary::generate::{self, Duty};
 use ordinary::judge::{judge, judge_case, verdict, PPCS, PPCW};
 use ordinary::judge::{verdict_with_syncs, verdict_without_dependencies};
 use ordinary::limits::{most_bytes, EDITIONS, EVENTS, FIRST, SECOND};
 use ordinary::random::Random;
-use ordinary::tally::{edition_name, heading, model_name, stated_edition, Tally};
+use ordinary::tally::{edition_name, model_name, Tally};
 use ordinary::{permutation, read, renumber, rows, write, Case};
 
 const MODELS: [u64; 2] = [PPCW, PPCS];
@@ -21,11 +21,60 @@ fn rows_agree_with_pairs() {
             let answer = judge(&record, model);
             let quick = rows::judge(&record, model);
             assert_eq!(quick, answer, "{record:?} under {model}");
-            tally.add(heading(stated_edition(&record), model), answer.number);
+            tally.add_judged(&record, model, answer.number);
         }
     }
     println!("{tally}");
     tally.assert_judged(100);
+}
+
+/// Names of generated cases have every printable byte and no other. Those of damaged records have
+/// every kind of other byte, at the front, inside and at the end.
+#[test]
+fn generated_names() {
+    let mut random = Random::new(9);
+    let (mut good, mut bad) = (Tally::default(), Tally::default());
+    for _ in 0..20_000 {
+        let case = generate::any_case(&mut random);
+        for &byte in &case.name {
+            good.add("printable", byte.into());
+        }
+        let bytes = generate::damaged(&mut random, &case);
+        if let Err(Refusal {
+            number: UNPRINTABLE,
+            place,
+        }) = read::read(&bytes)
+        {
+            let kind = match bytes[place] {
+                0..=31 => 0,
+                127 => 1,
+                128..=254 => 2,
+                _ => 3,
+            };
+            bad.add(part_of_name(&bytes, place), kind);
+        }
+    }
+    println!("{bad}");
+    good.assert_each("printable", 32..=126, 200);
+    let mut others = (0..=31).chain(127..=255);
+    assert!(others.all(|byte| good.times("printable", byte) == 0));
+    for part in ["front", "inside", "end"] {
+        bad.assert_each(part, 0..=3, 50);
+    }
+}
+
+/// In which part of the name of these bytes, which is not printable, a place lies.
+fn part_of_name(bytes: &[u8], place: usize) -> &'static str {
+    let record = generate::printable(bytes);
+    let end = read::answer(&record).length;
+    let start = end - read::name(&record).len();
+    if place == start {
+        "front"
+    } else if place + 1 == end {
+        "end"
+    } else {
+        "inside"
+    }
 }
 
 /// Every way in which a dependency may be unfit comes up, and is refused with 4.

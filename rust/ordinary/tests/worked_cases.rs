@@ -1,14 +1,17 @@
 //! The cases whose answers the definition itself gives.
 
-use ordinary::answer::{Answer, ENDS, FORM, MISPLACED, PERMUTATION, RANGE, ROOM};
+use ordinary::answer::{
+    Answer, ENDS, FORM, MISPLACED, MODEL, PERMUTATION, RANGE, ROOM, UNPRINTABLE,
+};
 use ordinary::judge::{judge, judge_case, PPCS, PPCW};
 use ordinary::limits::{
     most_bytes, ADDRESSES, DEPENDENCIES, EDITIONS, EVENTS, FIRST, GROUPS, NAME, SECOND, THREADS,
     VALUE,
 };
 use ordinary::permutation::{composite, fits, images, inverse, COUNT};
-use ordinary::renumber::renumber;
-use ordinary::{generate, read, text, write, Case, Class, Dependency, Event, Kind, Order};
+use ordinary::renumber::{renumber, renumber_case};
+use ordinary::{generate, read, rows, text, write};
+use ordinary::{Case, Class, Dependency, Event, Kind, Order};
 
 const SMALL: [u8; 19] = [1, 1, 1, 0, 2, 1, 0, 0, 1, 0, 0, 0, 1, 0, 1, 0, 1, 1, 0x61];
 
@@ -113,6 +116,79 @@ fn the_small_record() {
     assert_eq!(number(13, 2), refused(RANGE, 13));
     assert_eq!(number(17, NAME as u8 + 1), refused(RANGE, 17));
     assert_eq!(number(17, NAME as u8), refused(ENDS, 18));
+    assert_eq!(number(18, 0x1f), refused(UNPRINTABLE, 18));
+}
+
+/// Every call refuses the case's record with this number and place, whatever else it is handed, and
+/// the case itself with place 0. Only the model comes before.
+fn refused_alike(case: &Case, number: u32, place: usize) {
+    let (record, answer) = (write::record(case), refused(number, place));
+    assert_eq!(read::answer(&record), answer, "{case:?}");
+    assert_eq!(read::name(&record), b"", "{case:?}");
+    for model in [PPCW, PPCS] {
+        assert_eq!(judge(&record, model), answer, "{case:?}");
+        assert_eq!(rows::judge(&record, model), answer, "{case:?}");
+        assert_eq!(judge_case(case, model), refused(number, 0), "{case:?}");
+    }
+    assert_eq!(judge(&record, PPCS + 1), Answer::refused(MODEL));
+    assert_eq!(judge_case(case, PPCS + 1), Answer::refused(MODEL));
+    let length = record.len();
+    for (q, r, room) in [(0, 0, length), (COUNT, 0, length), (0, COUNT, 0), (0, 0, 0)] {
+        let mut out = vec![9; room];
+        assert_eq!(renumber(&record, q, r, &mut out, 0), answer, "{case:?}");
+        assert_eq!(renumber_case(case, q, r), Err(number), "{case:?}");
+        assert_eq!(write::write(case, &mut out, 0), refused(number, 0));
+        assert_eq!(out, vec![9; room], "{case:?}");
+    }
+}
+
+/// In every edition, only 32 to 126 may stand in a name.
+#[test]
+fn every_byte_of_a_name() {
+    let mut bad = 0;
+    for case in generate::every_byte_of_a_name() {
+        let record = write::record(&case);
+        let start = record.len() - case.name.len();
+        match case.name.iter().position(|b| !(32..=126).contains(b)) {
+            Some(at) => {
+                refused_alike(&case, 23, start + at);
+                bad += 1;
+            }
+            None => {
+                assert_eq!(judge(&record, PPCS), accepted(&case, &[7, 8]));
+                assert_eq!(read::name(&record), case.name);
+                assert_eq!(case.fault(), 0);
+            }
+        }
+    }
+    let places = 1 + 2 + 3 + 3;
+    assert_eq!(bad, EDITIONS.len() * places * (256 - (126 - 32 + 1)));
+}
+
+/// A bad name comes behind everything else that is wrong with a record, and before the rules.
+#[test]
+fn when_a_name_is_refused() {
+    for (name, _) in ANSWERS {
+        let mut case = example(name);
+        *case.name.last_mut().expect("a name") = 0x7f;
+        refused_alike(&case, UNPRINTABLE, write::size(&case) - 1);
+    }
+    let changed = |number, place, change: fn(&mut Case)| {
+        let mut case = example("dekker");
+        case.name = vec![b'a', 0x1f, 0x80];
+        change(&mut case);
+        refused_alike(&case, number, place);
+    };
+    changed(UNPRINTABLE, 72, |_| {});
+    changed(RANGE, 0, |case| case.edition = SECOND + 1);
+    changed(RANGE, 7, |case| case.events[0].thread = 2);
+    changed(RANGE, 26, |case| case.write_orders[0] = vec![6]);
+    changed(MISPLACED, 26, |case| case.write_orders[0] = vec![3]);
+    changed(RANGE, 70, |case| case.name = vec![0; NAME + 1]);
+    let short = [&SMALL[..17], &[2, 0]].concat();
+    assert_eq!(read::answer(&short), refused(ENDS, 18));
+    let long = [&SMALL[..17], &[0x81, 0, 0]].concat();
+    assert_eq!(read::answer(&long), refused(FORM, 17));
 }
 
 #[test]
@@ -348,7 +424,8 @@ fn faults_of_a_case() {
     assert_eq!(fault(|case| case.write_orders[0] = vec![3]), MISPLACED);
     assert_eq!(fault(|case| case.write_orders[0] = vec![]), MISPLACED);
     assert_eq!(fault(|case| case.write_orders[0] = vec![0, 0]), MISPLACED);
-    assert_eq!(fault(|case| case.name = vec![0; NAME + 1]), RANGE);
+    assert_eq!(fault(|case| case.name = vec![b'n'; NAME + 1]), RANGE);
+    assert_eq!(fault(|case| case.name = vec![b'\t']), UNPRINTABLE);
 }
 
 #[test]

@@ -1,12 +1,30 @@
 //! Bytes that are no records.
 
+use super::names::unprintable_name;
 use crate::case::{Case, Class, Dependency, Unfit};
 use crate::limits::{GROUPS, SECOND, VALUE};
 use crate::random::Random;
 use crate::write;
 
-/// Bytes that most likely are no record, made from the case's.
+/// Bytes that most likely are no record, made from the case's. Some have an unprintable name, alone
+/// or beside another fault.
 pub fn damaged(random: &mut Random, case: &Case) -> Vec<u8> {
+    if !random.once_in(3) {
+        return broken(random, case);
+    }
+    let name = unprintable_name(random, &case.name);
+    let case = Case {
+        name,
+        ..case.clone()
+    };
+    match random.once_in(2) {
+        true => write::record(&case),
+        false => broken(random, &case),
+    }
+}
+
+/// The case's record with another fault, most likely.
+fn broken(random: &mut Random, case: &Case) -> Vec<u8> {
     let mut record = write::record(case);
     let at = random.below(record.len());
     match random.below(9) {
