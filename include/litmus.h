@@ -58,12 +58,13 @@ enum {
  *                are not in that order for every thread
  *            18  two events that a barrier orders, one before it and one after a load of a store
  *                behind it, are not in that order for every thread
+ *            23  a byte of the name is not printable (32 to 126)
  *          A sync orders any two events; an lwsync orders loads and stores, but not a store
  *          before a load.
  *          Where several rules are broken, the lowest is given.
  * place    under 1 to 4, the byte where the faulty number starts (under 4, of a pair: its first
  *          number, of a dependency: its class; of a name that is cut short: its first byte);
- *          otherwise 0
+ *          under 23, the first byte of the name that is not printable; otherwise 0
  * length   under 0 and 11 to 18, how many bytes the record takes; otherwise 0
  * finals   of litmus_judge under 0, what each address holds at the end, and 0 for addresses that
  *          the case does not have; otherwise all 0
@@ -81,12 +82,12 @@ typedef struct {
     uint64_t length;
 } litmus_part;
 
-/* Whether the bytes start with a record: 0 with its length, or 1 to 4 with the place. */
+/* Whether the bytes start with a record: 0 with its length, or 1 to 4 or 23 with the place. */
 litmus_answer litmus_read(const uint8_t *record, size_t size);
 
 /*
  * Judges the record under a model: 0 with length and finals, 11 to 18 with length, 7 before
- * anything else is looked at, or 1 to 4 as litmus_read.
+ * anything else is looked at, or 1 to 4 or 23 as litmus_read, before any rule.
  */
 litmus_answer litmus_judge(const uint8_t *record, size_t size, uint64_t model);
 
@@ -96,14 +97,17 @@ litmus_answer litmus_judge(const uint8_t *record, size_t size, uint64_t model);
  * Permutations of the labels 0 to 3 are numbered 0 (0123) to 23 (3210) in dictionary order; "1230"
  * sends 0 to 1.
  *
- * Checked in this order: the record (1 to 4), threads (5), addresses (5), room (6). Only the
- * record's bytes are written; under a refusal none is. out and record must be different buffers
- * that do not overlap.
+ * Checked in this order: the record (1 to 4), its name (23), threads (5), addresses (5), room (6).
+ * Only the record's bytes are written; under a refusal none is. out and record must be different
+ * buffers that do not overlap.
  */
 litmus_answer litmus_renumber(const uint8_t *record, size_t size, uint64_t threads,
                               uint64_t addresses, uint8_t *out, size_t room, uint64_t at);
 
-/* Where the record's name lies; at 0 and of length 0 where litmus_read refuses the bytes. */
+/*
+ * Where the record's name lies, whose bytes are 32 to 126; at 0 and of length 0 where litmus_read
+ * refuses the bytes.
+ */
 litmus_part litmus_name(const uint8_t *record, size_t size);
 
 /*

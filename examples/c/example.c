@@ -11,7 +11,7 @@ static void judge(const char *model_name, uint64_t model, const uint8_t *record,
     if (answer.number == 0)
         printf("possible, finals %u %u %u %u\n", answer.finals[0], answer.finals[1],
                answer.finals[2], answer.finals[3]);
-    else if (answer.number >= 11)
+    else if (answer.number >= 11 && answer.number <= 18)
         printf("not possible, rule %u\n", answer.number);
     else
         printf("refused with %u at byte %lu\n", answer.number, (unsigned long)answer.place);

@@ -82,7 +82,8 @@ impl fmt::Display for Model {
 pub struct Answer {
     /// 0, or what is wrong; [`meaning`] says it in words.
     pub number: u32,
-    /// Under 1 to 4, the byte where the faulty number starts.
+    /// Under 1 to 4, the byte where the faulty number starts; under 23, the name's first byte that
+    /// is not printable.
     pub place: u64,
     /// Under 0 and 11 to 18, how many bytes the record takes.
     pub length: u64,
@@ -117,6 +118,7 @@ pub fn meaning(number: u32) -> &'static str {
         16 => "a load holds another value than some store to its address, does not come before it, and no other store lies between",
         17 => "two events that a barrier orders, one before it and one after it on its thread, are not in that order for every thread",
         18 => "two events that a barrier orders, one before it and one after a load of a store behind it, are not in that order for every thread",
+        23 => "a byte of the name is not printable (32 to 126)",
         _ => "no such number",
     }
 }
@@ -155,11 +157,11 @@ impl fmt::Display for Verdict {
     }
 }
 
-/// Why a call did nothing: 1 to 7.
+/// Why a call did nothing: 1 to 7, or 23.
 #[derive(Clone, Copy, Debug, PartialEq, Eq)]
 pub struct Refusal {
     pub number: u32,
-    /// Under 1 to 4, the byte where the faulty number starts; otherwise 0.
+    /// As in [`Answer`].
     pub place: usize,
 }
 
@@ -167,7 +169,7 @@ impl fmt::Display for Refusal {
     fn fmt(&self, f: &mut fmt::Formatter) -> fmt::Result {
         write!(f, "refused with {}: {}", self.number, meaning(self.number))?;
         match self.number {
-            1..=4 => write!(f, " (byte {})", self.place),
+            1..=4 | 23 => write!(f, " (byte {})", self.place),
             _ => Ok(()),
         }
     }
@@ -198,11 +200,11 @@ pub fn judge(record: &[u8], model: Model) -> Result<Verdict, Refusal> {
             length,
             finals: answer.finals,
         }),
-        1..=7 => Err(answer.into()),
-        rule => Ok(Verdict::Broken {
+        rule @ 11..=18 => Ok(Verdict::Broken {
             length,
             rule: Rule(rule),
         }),
+        _ => Err(answer.into()),
     }
 }
 
@@ -218,7 +220,7 @@ pub fn renumber(
     done(renumber_raw(record, threads, addresses, out, at as u64))
 }
 
-/// The record's name, as a part of the record; empty if it can't be read.
+/// The record's name, as a part of the record: printable ASCII, and empty if it can't be read.
 pub fn name(record: &[u8]) -> &[u8] {
     let part = name_raw(record);
     let at = part.at as usize;

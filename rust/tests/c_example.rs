@@ -1,5 +1,6 @@
 //! The C example, compiled with `cc` against the header and the archive.
 
+use std::fs;
 use std::path::{Path, PathBuf};
 use std::process::{Command, Output};
 
@@ -21,10 +22,20 @@ fn compiled() -> PathBuf {
     program
 }
 
+/// Runs it on a file in `examples/`, or one with a whole path.
 fn run(program: &Path, record: &str) -> Output {
     let mut command = Command::new(program);
     command.arg(root().join("examples").join(record));
     command.output().expect("the example starts")
+}
+
+/// An example with a line's end as the last byte of its name.
+fn unprintable() -> &'static str {
+    let file = concat!(env!("CARGO_TARGET_TMPDIR"), "/unprintable.litmus");
+    let mut record = fs::read(root().join("examples/small.litmus")).expect("a record");
+    *record.last_mut().expect("a name") = b'\n';
+    fs::write(file, record).expect("it is written");
+    file
 }
 
 #[test]
@@ -50,6 +61,10 @@ fn prints_what_the_library_answers() {
         (
             "README.md",
             "\nPPCw: refused with 3 at byte 0\nPPCs: refused with 3 at byte 0\n",
+        ),
+        (
+            unprintable(),
+            "\nPPCw: refused with 23 at byte 18\nPPCs: refused with 23 at byte 18\n",
         ),
     ];
     for (record, lines) in expected {

@@ -3,7 +3,10 @@
 mod common;
 
 use common::plain;
-use ordinary::judge::{judge, PPCS, PPCW};
+use ordinary::answer::UNPRINTABLE;
+use ordinary::judge::{judge, PPCS, PPCW, RULES};
+use ordinary::tally::Tally;
+use ordinary::Answer;
 use std::path::{Path, PathBuf};
 use std::process::Command;
 use std::{env, fs};
@@ -20,21 +23,31 @@ fn output(command: &mut Command) -> String {
     String::from_utf8(output.stdout).expect("text")
 }
 
+/// As they are, and with an unprintable byte at the end of their name, which comes before any rule.
 #[test]
 fn records() {
-    let mut judged = 0;
+    let mut tally = Tally::default();
     for entry in fs::read_dir(folder()).expect("examples") {
         let path = entry.expect("an entry").path();
         if path.extension().is_some_and(|end| end == "litmus") {
             let record = fs::read(&path).expect("a record");
+            let (mut unprintable, place) = (record.clone(), record.len() - 1);
+            unprintable[place] = 127;
+            let refused = Answer {
+                place,
+                ..Answer::refused(UNPRINTABLE)
+            };
             for model in [PPCW, PPCS] {
                 let answer = plain(litmus::judge_raw(&record, model));
                 assert_eq!(answer, judge(&record, model), "{}", path.display());
+                tally.add("numbers", answer.number);
+                let answer = plain(litmus::judge_raw(&unprintable, model));
+                assert_eq!(answer, refused, "{}", path.display());
             }
-            judged += 1;
         }
     }
-    assert!(judged > 10, "{judged} records found");
+    tally.assert_each("numbers", RULES, 1);
+    tally.assert_each("numbers", [0], 10);
 }
 
 #[test]

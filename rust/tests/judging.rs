@@ -3,6 +3,7 @@
 mod common;
 
 use common::plain;
+use ordinary::answer::MODEL;
 use ordinary::generate;
 use ordinary::judge::{judge, printed_verdict, PPCS, PPCW};
 use ordinary::judge::{verdict_with_syncs, verdict_without_dependencies};
@@ -74,7 +75,7 @@ fn generated_inputs() {
         let edition = stated_edition(&record);
         let numbers = [PPCW, PPCS].map(|model| {
             let number = compare(&record, model);
-            tally.add(heading(edition, model), number);
+            tally.add_judged(&record, model, number);
             changes.add(&record, model, number);
             number
         });
@@ -118,7 +119,16 @@ fn other_models() {
             &[1, 1, 1, 0, 0, 0, 0],
             &[2, 1, 1, 0, 0, 0, 0, 0],
         ] {
-            assert_eq!(compare(record, model), ordinary::answer::MODEL);
+            assert_eq!(compare(record, model), MODEL);
         }
+    }
+}
+
+#[test]
+fn every_byte_of_a_name() {
+    for case in generate::every_byte_of_a_name() {
+        let record = write::record(&case);
+        let numbers = [PPCW, PPCS, PPCS + 1].map(|model| compare(&record, model));
+        assert_eq!(numbers, [case.fault(), case.fault(), MODEL], "{case:?}");
     }
 }

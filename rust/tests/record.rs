@@ -40,27 +40,30 @@ fn makes_the_examples() {
 
 #[test]
 fn says_what_is_wrong() {
-    let output = record(&[], "threads 1\naddresses x\nevent load 0 z=1\n");
-    assert!(!output.status.success() && output.stdout.is_empty());
-    assert_eq!(
-        String::from_utf8_lossy(&output.stderr),
-        "standard input: line 3: no address is named 'z' (there are: x)\n"
-    );
-    let output = record(
-        &[],
-        "threads 1\naddresses x\nevent load 0 x=0\nevent load 0 x=0\ndependency data 0 1\n",
-    );
-    assert!(!output.status.success() && output.stdout.is_empty());
-    assert_eq!(
-        String::from_utf8_lossy(&output.stderr),
-        "standard input: line 5: from event 0 to event 1: only a store can depend on a load by data or control\n"
-    );
-    let output = record(&[], "edition 1\nthreads 1\naddresses x\nevent lwsync 0\n");
-    assert!(!output.status.success() && output.stdout.is_empty());
-    assert_eq!(
-        String::from_utf8_lossy(&output.stderr),
-        "standard input: line 4: edition 1 has no lwsync\n"
-    );
+    let front = "threads 1\naddresses x\n";
+    for (lines, message) in [
+        (
+            "event load 0 z=1\n",
+            "line 3: no address is named 'z' (there are: x)",
+        ),
+        (
+            "event load 0 x=0\nevent load 0 x=0\ndependency data 0 1\n",
+            "line 5: from event 0 to event 1: only a store can depend on a load by data or control",
+        ),
+        (
+            "edition 1\nevent lwsync 0\n",
+            "line 4: edition 1 has no lwsync",
+        ),
+        (
+            "name two\twords\n",
+            r"line 3: a name has only printable ASCII characters, not '\t'",
+        ),
+    ] {
+        let output = record(&[], &format!("{front}{lines}"));
+        assert!(!output.status.success() && output.stdout.is_empty());
+        let errors = String::from_utf8_lossy(&output.stderr);
+        assert_eq!(errors, format!("standard input: {message}\n"));
+    }
     assert!(!record(&[Path::new("no such file")], "").status.success());
     let three = [Path::new("a"); 3];
     let usage = record(&three, "").stderr;

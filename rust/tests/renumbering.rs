@@ -3,15 +3,15 @@
 mod common;
 
 use common::plain;
-use ordinary::answer::{MODEL, PERMUTATION, ROOM};
+use ordinary::answer::{ENDS, MODEL, OF_READING, PERMUTATION, ROOM, UNPRINTABLE};
 use ordinary::generate;
 use ordinary::judge::{judge, RULES};
-use ordinary::limits::{most_bytes, ADDRESSES, EDITIONS, SECOND};
+use ordinary::limits::{ADDRESSES, EDITIONS, SECOND};
 use ordinary::permutation::{composite, fits, images, COUNT};
 use ordinary::random::Random;
 use ordinary::renumber::{moved, relabel, renumber};
-use ordinary::tally::{edition_name, Tally};
-use ordinary::{write, Answer, Case};
+use ordinary::tally::{edition_name, stated_edition, Tally};
+use ordinary::{read, write, Answer, Case};
 
 const LISTS: usize = 20_000;
 const MOST_CALLS: usize = 12;
@@ -191,21 +191,69 @@ fn headings(edition: u32) -> [&'static str; 2] {
     }
 }
 
-/// Records as they come, damaged ones too: all answers and the whole buffer agree.
+/// Renumbers with both, compares answers and whole buffers, and hands back the number.
+fn compare(record: &[u8], q: u64, r: u64, buffer: &[u8], at: u64) -> u32 {
+    let (mut out, mut expected) = (buffer.to_vec(), buffer.to_vec());
+    let answer = renumber(record, q, r, &mut expected, at as usize);
+    let found = plain(litmus::renumber_raw(record, q, r, &mut out, at));
+    let same = (found, &out) == (answer, &expected);
+    assert!(same, "{record:?} by {q} and {r} from {at}: {found:?}");
+    assert!(answer.number == 0 || out == buffer, "{record:?}");
+    answer.number
+}
+
+/// Records as they come, damaged ones too.
 #[test]
 fn any_bytes() {
     let mut random = Random::new(31);
+    let (mut tally, mut behind) = (Tally::default(), Tally::default());
     for _ in 0..40_000 {
         let record = generate::any_record(&mut random);
-        let [q, r] = [0; 2].map(|_| random.any_number());
-        let room = record.len().min(most_bytes(SECOND)) + 4;
-        let mut expected = random.bytes(room);
-        let mut out = expected.clone();
-        let at = random.below(6);
-        let answer = renumber(&record, q, r, &mut expected, at);
-        let found = litmus::renumber_raw(&record, q, r, &mut out, at as u64);
-        assert_eq!(plain(found), answer, "{record:?} by {q} and {r}");
-        assert_eq!(out, expected, "{record:?} by {q} and {r}");
+        let heading = edition_name(stated_edition(&record));
+        let printable = generate::printable(&record);
+        let [n, m] = read::read(&printable).map_or([1, 1], |reading| {
+            [reading.case.threads(), reading.case.addresses()]
+        });
+        let q = any_permutation(&mut random, n);
+        let r = any_permutation(&mut random, m);
+        let (buffer, at) = any_buffer(&mut random, record.len());
+        let number = compare(&record, q, r, &buffer, at);
+        tally.add(heading, number);
+        if number == UNPRINTABLE {
+            behind.add(heading, compare(&printable, q, r, &buffer, at));
+        }
+    }
+    println!("{tally}behind an unprintable name:\n{behind}");
+    for edition in EDITIONS {
+        tally.assert_each(edition_name(edition), OF_READING, 100);
+        tally.assert_each(edition_name(edition), [PERMUTATION, ROOM], 100);
+        behind.assert_each(edition_name(edition), [0, PERMUTATION, ROOM], 100);
+    }
+}
+
+/// A bad byte of the name comes behind what else is wrong with a record, and before permutations and
+/// room.
+#[test]
+fn every_byte_of_a_name() {
+    for case in generate::every_byte_of_a_name() {
+        let record = write::record(&case);
+        let buffer = vec![9; record.len() + 3];
+        for (q, r, at, number) in [
+            (6, 6, 3, 0),
+            (2, 6, 3, PERMUTATION),
+            (6, COUNT, 3, PERMUTATION),
+            (6, 6, 4, ROOM),
+            (6, 6, u64::MAX, ROOM),
+            (COUNT, 2, u64::MAX, PERMUTATION),
+        ] {
+            let expected = match case.fault() {
+                0 => number,
+                fault => fault,
+            };
+            assert_eq!(compare(&record, q, r, &buffer, at), expected);
+            let cut = &record[..record.len() - 1];
+            assert_eq!(compare(cut, q, r, &buffer, at), ENDS);
+        }
     }
 }
 

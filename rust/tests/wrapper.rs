@@ -1,6 +1,8 @@
 //! The wrapper's own types say what the library's answers say.
 
-use litmus::{judge, judge_raw, meaning, read, read_raw, renumber, Model, Refusal, Rule, Verdict};
+use litmus::{judge, judge_raw, meaning, name, read, read_raw, renumber};
+use litmus::{Model, Refusal, Rule, Verdict};
+use ordinary::answer::{MODEL, UNPRINTABLE};
 use ordinary::generate;
 use ordinary::judge::RULES;
 use ordinary::limits::{most_bytes, EDITIONS, FIRST, SECOND};
@@ -11,12 +13,18 @@ const HEADER: &str = include_str!("../../include/litmus.h");
 
 const SMALL: &[u8] = include_bytes!("../../examples/small.litmus");
 
+/// Here and in the header.
 #[test]
 fn every_number_has_its_own_words() {
-    let numbers = (0..=7).chain(RULES);
+    let numbers = (0..=MODEL).chain(RULES).chain([UNPRINTABLE]);
     let words: BTreeSet<&str> = numbers.clone().map(meaning).collect();
-    assert_eq!(words.len(), numbers.count());
-    assert!([8, 10, 19].iter().all(|&n| !words.contains(meaning(n))));
+    assert_eq!(words.len(), numbers.clone().count());
+    assert!([8, 10, 19, 22, 24]
+        .iter()
+        .all(|&n| !words.contains(meaning(n))));
+    for number in numbers {
+        assert!(HEADER.contains(&format!("\n *{number:>14}  ")), "{number}");
+    }
 }
 
 /// Here and in the header.
@@ -55,7 +63,10 @@ fn typed_answers_are_the_raw_ones() {
             let raw = judge_raw(&record, model as u64);
             let (number, place, length, finals) = match judge(&record, model) {
                 Ok(Verdict::Accepted { length, finals }) => (0, 0, length, finals),
-                Ok(Verdict::Broken { length, rule }) => (rule.0, 0, length, Default::default()),
+                Ok(Verdict::Broken { length, rule }) => {
+                    assert!(RULES.contains(&rule.0));
+                    (rule.0, 0, length, Default::default())
+                }
                 Err(refusal) => (refusal.number, refusal.place, 0, Default::default()),
             };
             assert_eq!((raw.number, raw.finals), (number, finals));
@@ -80,20 +91,36 @@ fn renumbers_into_a_buffer() {
 }
 
 #[test]
+fn an_unprintable_name_is_refused() {
+    let mut record = SMALL.to_vec();
+    let place = record.len() - 1;
+    record[place] = b'\n';
+    let number = UNPRINTABLE;
+    let refusal = Refusal { number, place };
+    assert_eq!(read(&record), Err(refusal));
+    for model in [Model::PpcW, Model::PpcS] {
+        assert_eq!(judge(&record, model), Err(refusal));
+    }
+    let mut out = [9; 24];
+    assert_eq!(renumber(&record, 6, 6, &mut out, 9), Err(refusal));
+    assert_eq!(out, [9; 24]);
+    assert_eq!(name(&record), b"");
+}
+
+#[test]
 fn texts() {
-    let refusal = Refusal {
-        number: 3,
-        place: 4,
-    };
-    assert_eq!(
-        refusal.to_string(),
-        "refused with 3: a number is outside its range (byte 4)"
-    );
-    let refusal = Refusal {
-        number: 7,
-        place: 0,
-    };
-    assert_eq!(refusal.to_string(), "refused with 7: no such model");
+    for (number, place, text) in [
+        (3, 4, "3: a number is outside its range (byte 4)"),
+        (7, 0, "7: no such model"),
+        (
+            23,
+            18,
+            "23: a byte of the name is not printable (32 to 126) (byte 18)",
+        ),
+    ] {
+        let refusal = Refusal { number, place };
+        assert_eq!(refusal.to_string(), format!("refused with {text}"));
+    }
     let verdict = judge(SMALL, Model::PpcW).expect("readable");
     assert_eq!(verdict.to_string(), "possible: finals 1 0 0 0");
     assert!(Rule(14).to_string().starts_with("rule 14: "));
