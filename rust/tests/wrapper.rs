@@ -115,7 +115,7 @@ fn texts() {
         (
             23,
             18,
-            "23: a byte of the name is not printable (32 to 126) (byte 18)",
+            "23: a byte of the name is not printable ASCII (byte 18)",
         ),
     ] {
         let refusal = Refusal { number, place };
