@@ -3,7 +3,7 @@
 
 use litmus::Rows;
 use ordinary::judge::PPCS;
-use ordinary::limits::{EDITIONS, EVENTS, THREADS};
+use ordinary::limits::{EDITIONS, EVENTS, NAME, PRINTABLE, THREADS};
 use ordinary::random::Random;
 use ordinary::{generate, rows, write, Case, Kind, Order};
 use std::hint::black_box;
@@ -33,7 +33,7 @@ fn records(edition: u32, count: usize) {
     let bytes: usize = records.iter().map(Vec::len).sum();
     println!("{INPUTS} accepted records of edition {edition}, {bytes} bytes");
     println!(
-        "{count} events each with full orders; {}\n",
+        "{count} events each with full orders, and a full name; {}\n",
         contents(&cases)
     );
 
@@ -79,7 +79,11 @@ fn orders(count: usize) {
 
 fn accepted_cases(edition: u32, count: usize) -> Vec<Case> {
     let mut random = Random::new(40);
-    let cases = (0..INPUTS).map(|_| generate::full(&mut random, edition, count));
+    let cases = (0..INPUTS).map(|_| {
+        let mut case = generate::full(&mut random, edition, count);
+        case.name = vec![*PRINTABLE.end(); NAME];
+        case
+    });
     cases.collect()
 }
 
