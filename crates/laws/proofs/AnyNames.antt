@@ -1,23 +1,29 @@
 -- 02 (xi) adds 23 behind a record's other refusals and changes nothing else: what was read or handed before is answered as before,
--- but for a name with a byte that is not printable.
+-- but for a name with a byte that is not printable. A case whose name alone is at fault is refused with 23, read or handed.
 -- Each definition that it changed stands here in its text before that, with `any` before its name; the others are cited.
 -- Assumes nothing.
 use Prim.Native.Nat.{ℕ, zero, suc, _+_, _-_, _≤_}
+use native.Mathlib.Nat.{zero-add}
 use native.Mathlib.Omega.{arith}
-use mathlib.Core.Path.{_≡_, refl, sym, subst}
+use mathlib.Core.Path.{_≡_, refl, sym, ap, _∙_, subst}
 use mathlib.Core.Bool.{Bool, true, false, cond}
-use mathlib.Core.List.{List, []}
-use lib.Dec.{leb}
+use mathlib.Core.List.{List, [], _++_}
+use lib.Dec.{leb, lit<}
 use lib.ListN.{length, take, drop, length-drop}
 use lib.Seq.{length-take-le}
-use borrow.Author.Tests.{leb-true}
+use borrow.Author.Tests.{leb-true, le-leb}
 use Rattle.finite.specs.Lists.{every}
 use Rattle.number.specs.Reader.{Out, stop, next, Reader, give, _>>=_, onward, turns, times, upTo}
 use Rattle.model.specs.Limits.{between, leastEdition, mostEdition, mostThreads, mostAddresses, mostEvents, mostDependencies, mostValue, mostName}
 use Rattle.model.specs.Case.{Case, printable}
 use Rattle.model.specs.Rules.{orElse}
 use Rattle.model.specs.Record.{dependencyGood, dependencies, storeTo, nextWriteOrder, order, bytes, printableFront, printed, text, head, listing, Rest, rest, case, read}
+use Rattle.model.specs.Written.{recordOf}
 use Rattle.model.specs.Fault.{eventGood, firstFault, dependencyFault, writesFault, nameFault, fault}
+use Rattle.model.specs.Answers.{handed}
+use Rattle.laws.proofs.Fits.{Fits}
+use Rattle.laws.proofs.ReadBack.{ReadsAs, reads-bind, reads-last, reads-up-to, reads-bytes, restBytes, restOf, parted, reads-writes, reads-orders, reads-head, reads-listing, reads-links}
+use Rattle.laws.proofs.Faultless.{faultless}
 
 -- ---- what was: reading
 
@@ -143,3 +149,51 @@ first-first (suc x) y z = refl
 pub faults-but-names : (c : Case) → fault c ≡ firstFault (anyFault c) (orElse (every printable (c .name)) 23 0)
 unfolding fault nameFault
 faults-but-names c = simp (← else-first, ← first-first)
+
+-- ---- one whose name alone is at fault
+
+-- the case without its name
+abbrev pub unnamed : Case → Case
+unnamed c = record {
+  edition = c .edition;
+  n = c .n;
+  m = c .m;
+  k = c .k;
+  initials = c .initials;
+  events = c .events;
+  dependencies = c .dependencies;
+  writes = c .writes;
+  orders = c .orders;
+  name = [];
+}
+
+-- the name is asked for last
+faults-by-name : (c : Case) → fault c ≡ firstFault (fault (unnamed c)) (nameFault (c .name))
+unfolding fault nameFault every
+faults-by-name c = simp (← else-first, ← first-first)
+
+-- all but the name fits, which is short enough
+module _ (c : Case) (F : Fits (unnamed c)) (few : length (c .name) ≤ mostName) where
+  reads-any-rest : ReadsAs (anyRest (c .n) (c .m) (c .k) (storeTo (c .events))) (restBytes (c .k) (restOf c)) (restOf c)
+  reads-any-rest =
+      reads-bind _ (reads-writes (unnamed c) F)
+      (reads-bind _ (reads-orders (unnamed c) F)
+      (reads-bind _ (reads-up-to mostName (length (c .name)) few (lit< tt))
+      (reads-last _ (reads-bytes (c .name)))))
+
+  reads-any-case : ReadsAs anyCase (recordOf c) c
+  reads-any-case =
+      rw (parted c) (reads-bind _ (reads-head (unnamed c) F) (reads-bind _ (reads-listing (unnamed c) F) (reads-bind _ (reads-links (unnamed c) F)
+      (reads-last _ reads-any-rest))))
+
+  -- 02 (xi): "Reader, writer and any other call handed a case alike": 23 with place 0, and 23 at the first bad byte
+  module _ (bad : every printable (c .name) ≡ false) where
+    pub handed-unprintable : handed c ≡ stop 23 0
+    unfolding handed nameFault
+    handed-unprintable = rw (faults-by-name c, faultless (unnamed c) F, le-leb (length (c .name)) mostName few, bad)
+
+    pub read-unprintable : (t : List ℕ) → read (recordOf c ++ t) ≡ stop 23 (length (recordOf c) - length (c .name) + printableFront (c .name))
+    read-unprintable t =
+        read-but-names (recordOf c ++ t)
+        ∙ ap unlessUnprintable (reads-any-case .run (recordOf c ++ t) 0 t (omega arith) refl)
+        ∙ rw (bad, zero-add (length (recordOf c)))

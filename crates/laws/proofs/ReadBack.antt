@@ -21,7 +21,7 @@ use Rattle.number.proofs.Laws.{read-at, past}
 use Rattle.bits.specs.Bit.{bit}
 use Rattle.model.specs.Limits.{leastEdition, mostEdition, second, mostThreads, mostAddresses, mostEvents, mostDependencies, mostValue, mostName}
 use Rattle.model.specs.Case.{Case, Event, Dependency, sync, lwsync, mostKind, bare, mostClass, printable}
-use Rattle.model.specs.Record.{event, dependency, dependencyGood, leastAfter, risingDependency, risingDependencies, dependencies, member, storeTo, unlisted, writeOrder, nextWriteOrder, Pair, Rows, pair, rank, risingPair, withPair, nextPair, noPairs, order, bytes, text, Head, head, Listing, listing, Rest, rest, case, read}
+use Rattle.model.specs.Record.{event, dependency, dependencyGood, leastAfter, risingDependency, risingDependencies, dependencies, member, storeTo, unlisted, writeOrder, nextWriteOrder, Pair, Rows, pair, rank, risingPair, withPair, nextPair, noPairs, order, bytes, printed, text, Head, head, Listing, listing, Rest, rest, case, read}
 use Rattle.model.specs.Written.{eventBytes, dependencyBytes, dependenciesBytes, pairBytes, rowPairs, rowsPairs, orderBytes, recordOf}
 use Rattle.laws.proofs.Fits.{All, EventFits, DependencyFits, DependenciesFit, WriteFits, WritesFit, Fits}
 
@@ -151,13 +151,17 @@ pub reads-store : (k : ℕ) (mine listed : ℕ → Bool) (e : ℕ) → e < k →
 unfolding unlisted
 reads-store k mine listed e l t f = reads-unless 4 _ (reads-below k e l f) t
 
-pub reads-name : (l : List ℕ) → every printable l ≡ true → ReadsAs (text (length l)) l l
-unfolding text bytes
-reads-name l e = record {
+pub reads-bytes : (l : List ℕ) → ReadsAs (bytes (length l)) l l
+unfolding bytes
+reads-bytes l = record {
   run = λ s at t b h.
       let fits : at + length l ≤ length s = omega (arith, simp (length-drop, length-append) at (ap length h)) in
-      rw (le-leb (at + length l) (length s) fits, h, take-at l t (length l) refl, e);
+      rw (le-leb (at + length l) (length s) fits, h, take-at l t (length l) refl);
 }
+
+pub reads-name : (l : List ℕ) → every printable l ≡ true → ReadsAs (text (length l)) l l
+unfolding text
+reads-name l e = record { run = λ s at t b h. ap (printed at) (reads-bytes l .run s at t b h) ∙ rw e }
 
 weaken : (k least less : ℕ) (ps : List Pair) → less ≤ least → Rising k least ps → Rising k less ps
 weaken k least less [] h r = tt
@@ -312,13 +316,13 @@ module _ (c : Case) (F : Fits c) where
       rw (F .k) (reads-times (event (c .edition) (c .n) (c .m)) eventBytes (c .events)
       (all-map _ _ (λ e h. reads-event (c .edition) (c .n) (c .m) e h (omega (arith, F .n-most)) (omega (arith, F .m-most))) (c .events) (F .events)))
 
-  writes : ReadsAs (turns (c .m) (nextWriteOrder (c .k) (storeTo (c .events))) []) (each (each encode) (c .writes)) (c .writes)
-  writes =
+  pub reads-writes : ReadsAs (turns (c .m) (nextWriteOrder (c .k) (storeTo (c .events))) []) (each (each encode) (c .writes)) (c .writes)
+  reads-writes =
       rw (F .m′) (reads-turns (λ b. writeOrder (c .k) (storeTo (c .events) (length b))) (each encode) [] (c .writes)
       (writes-steps (c .k) (storeTo (c .events)) [] (c .writes) (F .writes) (omega (arith, F .k-most))))
 
-  orders : ReadsAs (times (c .n) (order (c .k))) (each (orderBytes (c .k)) (c .orders)) (c .orders)
-  orders =
+  pub reads-orders : ReadsAs (times (c .n) (order (c .k))) (each (orderBytes (c .k)) (c .orders)) (c .orders)
+  reads-orders =
       rw (F .n) (reads-times (order (c .k)) (orderBytes (c .k)) (c .orders)
       (all-map _ _ (λ rows h. reads-order (c .k) rows (h .0) (h .1) (omega (arith, square)) (omega (arith, F .k-most))) (c .orders) (F .orders)))
 
@@ -344,8 +348,8 @@ module _ (c : Case) (F : Fits c) where
   pub reads-rest : ReadsAs (rest (c .n) (c .m) (c .k) (storeTo (c .events))) (restBytes (c .k) (restOf c)) (restOf c)
   unfolding rest
   reads-rest =
-      reads-bind _ writes
-      (reads-bind _ orders
+      reads-bind _ reads-writes
+      (reads-bind _ reads-orders
       (reads-bind _ (reads-up-to mostName (length (c .name)) (F .name) (lit< tt))
       (reads-last _ (reads-name (c .name) (F .name-printable)))))
 
