@@ -1,8 +1,9 @@
-// A line for each call on a record.
+// A line for each call.
 use crate::cases::case_agrees;
 use crate::text::say;
 use crate::text::say_answer;
 use crate::text::say_bytes;
+use litmus::Answer;
 
 const PPCW: u64 = 0;
 
@@ -33,14 +34,28 @@ pub fn judged(name: &[u8], record: &[u8]) {
     say(b"\n");
 }
 
+// An answer by itself.
+pub fn answered(name: &[u8], answer: Answer) {
+    say(name);
+    say(b": ");
+    say_answer(answer);
+    say(b"\n");
+}
+
+// An answer and what its call left in the buffer.
+pub fn stored(name: &[u8], answer: Answer, out: &[u8]) {
+    say(name);
+    say(b": ");
+    say_answer(answer);
+    say(b"; buffer");
+    say_bytes(out);
+    say(b"\n");
+}
+
 // A record renumbered into a buffer of 23 bytes from a place on.
 pub fn renumbered(name: &[u8], record: &[u8], threads: u64, addresses: u64, at: usize) {
     let mut space = [0xEEu8; 23];
     let out: &mut [u8] = &mut space;
-    say(name);
-    say(b": ");
-    say_answer(litmus::renumber(record, threads, addresses, out, at));
-    say(b"; buffer");
-    say_bytes(out);
-    say(b"\n");
+    let answer = litmus::renumber(record, threads, addresses, out, at);
+    stored(name, answer, out);
 }

@@ -1,46 +1,20 @@
 // Names with bytes that are not printable (02 (xi)), in records and in cases handed without bytes.
+use crate::lines::answered;
 use crate::lines::judged;
 use crate::lines::renumbered;
+use crate::lines::stored;
 use crate::records;
 use crate::text::say;
-use crate::text::say_answer;
-use crate::text::say_bytes;
 use crate::text::say_number;
 use case::Case;
-use litmus::Answer;
 
 // The small record with a name of three bytes.
 fn small_named(first: u8, middle: u8, last: u8) -> [u8; 21] {
-    [
-        1,
-        1,
-        1,
-        0,
-        2,
-        1,
-        0,
-        0,
-        1,
-        0,
-        0,
-        0,
-        1,
-        0,
-        1,
-        0,
-        1,
-        3,
-        first,
-        middle,
-        last,
-    ]
-}
-
-fn answered(name: &[u8], answer: Answer) {
-    say(name);
-    say(b": ");
-    say_answer(answer);
-    say(b"\n");
+    let mut record = records::SMALL_NAMED;
+    record[18] = first;
+    record[19] = middle;
+    record[20] = last;
+    record
 }
 
 fn say_place(b: u8, place: &[u8]) {
@@ -98,15 +72,12 @@ fn unprintable_case() -> Case {
     c
 }
 
+// A case written into a buffer of 23 bytes from a place on.
 fn written(name: &[u8], c: Case, at: usize) {
     let mut space = [0xEEu8; 23];
     let out: &mut [u8] = &mut space;
-    say(name);
-    say(b": ");
-    say_answer(litmus::write(c, out, at));
-    say(b"; buffer");
-    say_bytes(out);
-    say(b"\n");
+    let answer = litmus::write(c, out, at);
+    stored(name, answer, out);
 }
 
 // The same of a case.

@@ -240,6 +240,13 @@ pub const NAME_33: [u8; 51] = *b"\x01\x01\x01\x00\
     \x01\x00\x01\
     \x21aaaaaaaaaaaaaaaaaaaaaaaaaaaaaaaaa";
 
+// The small record with a name of three bytes.
+pub const SMALL_NAMED: [u8; 21] = *b"\x01\x01\x01\x00\
+    \x02\x01\x00\x00\x01\x00\x00\x00\x01\
+    \x00\
+    \x01\x00\x01\
+    \x03aaa";
+
 // The small record, its name the byte 0.
 pub const UNPRINTABLE: [u8; 19] = *b"\x01\x01\x01\x00\
     \x02\x01\x00\x00\x01\x00\x00\x00\x01\
