@@ -58,7 +58,7 @@ impl Case {
 
     pub const MOST_DEPENDENCIES: usize = 96;
 
-    pub const MOST_VALUE: u32 = 65535;
+    pub const MOST_VALUE: u32 = 4294967295;
 
     pub const MOST_NAME: usize = 32;
 
@@ -68,9 +68,9 @@ impl Case {
     pub const MOST_PRINTABLE: usize = 126;
 
     // the most bytes that a record takes: of the first edition, and of any
-    pub const MOST_FIRST_BYTES: usize = 33273;
+    pub const MOST_FIRST_BYTES: usize = 33409;
 
-    pub const MOST_BYTES: usize = 33561;
+    pub const MOST_BYTES: usize = 33697;
 
     // the kinds of events
     pub const LOAD: u8 = 0;

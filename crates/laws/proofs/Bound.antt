@@ -387,8 +387,8 @@ encode-by (suc g) v h = go (ltb v 128) refl (encode-by g (v / 128))
 size-by : (v : ℕ) → v < 128 ^ groups → size v ≡ length (encodeBy (groups - 1) v)
 size-by v h = ap length (encode-by (groups - 1) v h)
 
--- 01: "record bytes"; 02 (viii): "an edition 1 record may be 33,273 bytes, edition 2 has 288 more"
-pub most-is : (mostBytes 1 ≡ 33273) × (mostBytes 2 ≡ 33273 + 288)
+-- 01: "record bytes"; 02 (xii): "An edition 1 record may be 33,409 bytes", (viii): "edition 2 has 288 more"
+pub most-is : (mostBytes 1 ≡ 33409) × (mostBytes 2 ≡ 33409 + 288)
 unfolding mostBytes mostLinkBytes mostEventBytes mostOrderBytes mostDependencyBytes mostKind encodeBy
 most-is =
     simp (

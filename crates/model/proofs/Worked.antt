@@ -15,7 +15,7 @@ use Rattle.model.specs.Fault.{eventGood, dependencyFault, writeFault, wr
 use Rattle.model.specs.Renumber.{moved, relabel, renumber, fitting}
 use Rattle.model.specs.Answers.{handed, put, write, judge, judgeCase, renumberRecord, renumberCase, name, judgedName, renumberedName}
 use Rattle.model.specs.Calls.{composedAfter}
-use Rattle.model.specs.Worked.{lent, one, syncing, linked, same, holds, worked, paperCases, orderCases, valueCases, barrierCases, secondCases, layoutCases, secondLayoutCases, modelCases, nameCases, printableCases, renumberCases, handedCases, callCases, records}
+use Rattle.model.specs.Worked.{lent, one, syncing, linked, same, holds, worked, paperCases, orderCases, valueCases, barrierCases, secondCases, layoutCases, secondLayoutCases, widthCases, modelCases, nameCases, printableCases, renumberCases, handedCases, callCases, records}
 
 pub worked-cases : T (worked records)
 unfolding all some count table each after readGroups finish readNumber encodeBy encode splice unless turns times upTo within
@@ -24,5 +24,5 @@ unfolding all some count table each after readGroups finish readNumber encodeBy 
     finals event dependency dependencyGood leastAfter risingDependency risingDependencies dependencies member storeTo unlisted writeOrder pair risingPair nextPair order bytes printable printableFront text head listing rest case read eventBytes dependencyBytes dependenciesBytes
     pairBytes rowPairs rowsPairs orderBytes recordOf every eventGood dependencyFault writeFault writesFault nameFault fault moved relabel renumber fitting
     handed put write judge judgeCase renumberRecord renumberCase name judgedName renumberedName lent one syncing linked same holds worked paperCases
-    orderCases valueCases barrierCases secondCases layoutCases secondLayoutCases modelCases nameCases printableCases renumberCases handedCases callCases records composedAfter
+    orderCases valueCases barrierCases secondCases layoutCases secondLayoutCases widthCases modelCases nameCases printableCases renumberCases handedCases callCases records composedAfter
 worked-cases = tt

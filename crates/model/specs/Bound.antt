@@ -35,7 +35,7 @@ mostLinkBytes edition =
     (size mostDependencies + (mostDependencies * mostDependencyBytes + (mostEvents - leastLoads) * size (mostEvents - 1)))
     (mostEvents * size (mostEvents - 1))
 
--- 01: "record bytes"; 02 (viii): "an edition 1 record may be 33,273 bytes, edition 2 has 288 more"
+-- 01: "record bytes"; 02 (xii): "An edition 1 record may be 33,409 bytes", (viii): "edition 2 has 288 more"
 unfoldable pub mostBytes : (edition : ℕ) → ℕ
 mostBytes edition =
     size mostEdition + (size mostThreads + (size mostAddresses + (mostAddresses * size mostValue

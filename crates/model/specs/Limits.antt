@@ -31,7 +31,7 @@ abbrev pub mostEvents : ℕ
 mostEvents = 64
 
 abbrev pub mostValue : ℕ
-mostValue = 65535
+mostValue = 4294967295
 
 -- 02 (vi): "a count up to 96 of dependencies"
 abbrev pub mostDependencies : ℕ

@@ -3,11 +3,11 @@
 -- the dependencies, their count first; write orders, if there are stores; each thread's order, its count first; the name's length
 -- and the name. The answer stands before them.
 -- Assumes nothing.
-use Prim.Native.Nat.{ℕ, _-_}
+use Prim.Native.Nat.{ℕ, _+_, _-_}
 use mathlib.Core.Bool.{Bool, true, false, _&&_}
 use mathlib.Core.List.{List, [], _∷_, _++_, map}
 use lib.Dec.{eqb}
-use lib.ListN.{length, take, set}
+use lib.ListN.{length, take, drop, set}
 use Rattle.finite.specs.Lists.{table, each}
 use Rattle.number.specs.Reader.{Out, stop, next}
 use Rattle.model.specs.Case.{Case, Dependency}
@@ -1143,14 +1143,13 @@ layoutCases =
     0 ∷
     1 ∷ 0 ∷ 1 ∷
     1 ∷ 0x61 ∷ []) ∷
-    -- 80 80 80 at the end: the third group says that more follows
-    alike (refusal 2 3)
+    -- 80 80 80 at the end, and 80 80: the bytes end inside a number
+    alike (refusal 1 3)
     (1 ∷ 0x01 ∷ 0x01 ∷ 0x80 ∷ 0x80 ∷ 0x80 ∷ []) ∷
-    -- 80 80 at the end: the bytes end inside a number
     alike (refusal 1 3)
     (1 ∷ 0x01 ∷ 0x01 ∷ 0x80 ∷ 0x80 ∷ []) ∷
     -- 80 80 04 is 65,536
-    alike (refusal 3 3)
+    alike (accepted 21 (1 ∷ 0 ∷ 0 ∷ 0 ∷ []))
     (1 ∷ 1 ∷ 1 ∷ 0x80 ∷ 0x80 ∷ 4 ∷
     2 ∷ 1 ∷ 0 ∷ 0 ∷ 1 ∷ 0 ∷ 0 ∷ 0 ∷ 1 ∷
     0 ∷
@@ -1215,7 +1214,7 @@ layoutCases =
     -- An event's value too large
     alike (refusal 3 8)
     (1 ∷ 1 ∷ 1 ∷ 0 ∷
-    2 ∷ 1 ∷ 0 ∷ 0 ∷ 0x80 ∷ 0x80 ∷ 4 ∷ 0 ∷ 0 ∷ 0 ∷ 1 ∷
+    2 ∷ 1 ∷ 0 ∷ 0 ∷ 0x80 ∷ 0x80 ∷ 0x80 ∷ 0x80 ∷ 0x10 ∷ 0 ∷ 0 ∷ 0 ∷ 1 ∷
     0 ∷
     1 ∷ 0 ∷ 1 ∷
     1 ∷ 0x61 ∷ []) ∷
@@ -1327,6 +1326,111 @@ layoutCases =
     1 ∷ 0 ∷ 1 ∷
     2 ∷ 0x61 ∷ []) ∷
     []
+
+-- 02 (xii): a value of the bytes b is v. It is read as an initial value, in both editions, and as a store's, and is final. Both
+-- are written
+abbrev pub valueOf : (v : ℕ) (b : List ℕ) → List Row
+valueOf v b =
+    alike (accepted (6 + length b) (v ∷ 0 ∷ 0 ∷ 0 ∷ [])) (1 ∷ 1 ∷ 1 ∷ (b ++ (0 ∷ 0 ∷ 0 ∷ []))) ∷
+    alike (accepted (7 + length b) (v ∷ 0 ∷ 0 ∷ 0 ∷ [])) (2 ∷ 1 ∷ 1 ∷ (b ++ (0 ∷ 0 ∷ 0 ∷ 0 ∷ []))) ∷
+    alike (accepted (11 + length b) (v ∷ 0 ∷ 0 ∷ 0 ∷ [])) (1 ∷ 1 ∷ 1 ∷ 0 ∷ 1 ∷ 1 ∷ 0 ∷ 0 ∷ (b ++ (0 ∷ 0 ∷ 0 ∷ []))) ∷
+    alike (accepted (12 + length b) (v ∷ 0 ∷ 0 ∷ 0 ∷ [])) (2 ∷ 1 ∷ 1 ∷ 0 ∷ 1 ∷ 1 ∷ 0 ∷ 0 ∷ (b ++ (0 ∷ 0 ∷ 0 ∷ 0 ∷ []))) ∷
+    judgedCase 0 (one 1 1 1 v 1 1 0 0 v (0 ∷ []) []) (accepted (10 + (length b + length b)) (v ∷ 0 ∷ 0 ∷ 0 ∷ [])) ∷
+    written (one 1 1 1 v 1 1 0 0 v (0 ∷ []) []) 0 (done (10 + (length b + length b)))
+    (lent (10 + (length b + length b)))
+    (1 ∷ 1 ∷ 1 ∷ (b ++ (1 ∷ 1 ∷ 0 ∷ 0 ∷ (b ++ (0 ∷ 0 ∷ 0 ∷ []))))) ∷ []
+
+-- w groups that each say that more follows
+abbrev pub following : (w : ℕ) → List ℕ
+following w = table 0 w (λ _. 0x80)
+
+-- the bytes b in place of number i of a record, whose numbers take a byte each
+abbrev pub numberAs : (s b : List ℕ) (i : ℕ) → List ℕ
+numberAs s b i = take i s ++ b ++ drop (i + 1) s
+
+-- each number of such a record in turn
+abbrev pub numbersOf : (s : List ℕ) → List Row
+numbersOf s =
+    -- 4,294,967,296, and the most that five groups say
+    table 0 (length s) (λ i. alike (refusal 3 i) (numberAs s (following 4 ++ (0x10 ∷ [])) i)) ++
+    table 0 (length s) (λ i. alike (refusal 3 i) (numberAs s (0xFF ∷ 0xFF ∷ 0xFF ∷ 0xFF ∷ 0x7F ∷ []) i)) ++
+    -- Five groups, the last zero
+    table 0 (length s) (λ i. alike (refusal 2 i) (numberAs s (following 4 ++ (0 ∷ [])) i)) ++
+    -- A sixth group; the fifth says that more follows, and the bytes end
+    table 0 (length s) (λ i. alike (refusal 2 i) (numberAs s (following 5 ++ (1 ∷ [])) i)) ++
+    table 0 (length s) (λ i. alike (refusal 2 i) (take i s ++ following 5)) ++
+    -- The bytes end behind the fourth
+    table 0 (length s) (λ i. alike (refusal 1 i) (take i s ++ following 4))
+
+-- an edition 2 record of a store that depends on a load, without a name
+abbrev pub dependentStore : List ℕ
+dependentStore =
+    2 ∷ 1 ∷ 1 ∷ 0 ∷
+    2 ∷ 0 ∷ 0 ∷ 0 ∷ 0 ∷ 1 ∷ 0 ∷ 0 ∷ 1 ∷
+    1 ∷ 1 ∷ 0 ∷ 1 ∷
+    1 ∷
+    1 ∷ 0 ∷ 1 ∷
+    0 ∷ []
+
+unfoldable pub widthCases : List Row
+widthCases =
+    -- The least and the greatest number of each width
+    valueOf 0 (0 ∷ []) ++ valueOf 127 (0x7F ∷ [])
+    ++ valueOf 128 (0x80 ∷ 1 ∷ []) ++ valueOf 16383 (0xFF ∷ 0x7F ∷ [])
+    ++ valueOf 16384 (0x80 ∷ 0x80 ∷ 1 ∷ []) ++ valueOf 2097151 (0xFF ∷ 0xFF ∷ 0x7F ∷ [])
+    ++ valueOf 2097152 (0x80 ∷ 0x80 ∷ 0x80 ∷ 1 ∷ []) ++ valueOf 268435455 (0xFF ∷ 0xFF ∷ 0xFF ∷ 0x7F ∷ [])
+    ++ valueOf 268435456 (0x80 ∷ 0x80 ∷ 0x80 ∷ 0x80 ∷ 1 ∷ []) ++ valueOf 4294967295 (0xFF ∷ 0xFF ∷ 0xFF ∷ 0xFF ∷ 0x0F ∷ []) ++
+    -- The last of two to five groups is zero
+    table 1 4 (λ w. alike (refusal 2 3) (numberAs (smallNamed []) (following w ++ (0 ∷ [])) 3)) ++
+    -- The bytes end behind up to four groups, then behind the fifth
+    table 0 5 (λ w. alike (refusal 1 3) (1 ∷ 1 ∷ 1 ∷ following w)) ++
+    (alike (refusal 2 3) (1 ∷ 1 ∷ 1 ∷ following 5) ∷ []) ++
+    -- Each number of a record, in both editions
+    numbersOf (smallNamed []) ++ numbersOf dependentStore ++
+    -- A store and a load of the greatest value
+    (alike (accepted 26 (4294967295 ∷ 0 ∷ 0 ∷ 0 ∷ []))
+    (1 ∷ 1 ∷ 1 ∷ 0 ∷
+    2 ∷ 1 ∷ 0 ∷ 0 ∷ 0xFF ∷ 0xFF ∷ 0xFF ∷ 0xFF ∷ 0x0F ∷ 0 ∷ 0 ∷ 0 ∷ 0xFF ∷ 0xFF ∷ 0xFF ∷ 0xFF ∷ 0x0F ∷
+    0 ∷
+    1 ∷ 0 ∷ 1 ∷
+    0 ∷ []) ∷
+    -- Values that differ above 16 bits alone, and in the highest bit alone
+    alike (broken 16 20)
+    (1 ∷ 1 ∷ 1 ∷ 0 ∷
+    2 ∷ 1 ∷ 0 ∷ 0 ∷ 0x81 ∷ 0x80 ∷ 4 ∷ 0 ∷ 0 ∷ 0 ∷ 1 ∷
+    0 ∷
+    1 ∷ 0 ∷ 1 ∷
+    0 ∷ []) ∷
+    alike (broken 16 22)
+    (1 ∷ 1 ∷ 1 ∷ 0 ∷
+    2 ∷ 1 ∷ 0 ∷ 0 ∷ 0x81 ∷ 0x80 ∷ 0x80 ∷ 0x80 ∷ 8 ∷ 0 ∷ 0 ∷ 0 ∷ 1 ∷
+    0 ∷
+    1 ∷ 0 ∷ 1 ∷
+    0 ∷ []) ∷
+    -- Initial values: the one loaded, and one that differs in the highest bit alone
+    alike (accepted 19 (4294967295 ∷ 0 ∷ 0 ∷ 0 ∷ []))
+    (1 ∷ 1 ∷ 1 ∷ 0xFF ∷ 0xFF ∷ 0xFF ∷ 0xFF ∷ 0x0F ∷
+    1 ∷ 0 ∷ 0 ∷ 0 ∷ 0xFF ∷ 0xFF ∷ 0xFF ∷ 0xFF ∷ 0x0F ∷
+    0 ∷
+    0 ∷ []) ∷
+    alike (broken 15 19)
+    (1 ∷ 1 ∷ 1 ∷ 0xFF ∷ 0xFF ∷ 0xFF ∷ 0xFF ∷ 0x07 ∷
+    1 ∷ 0 ∷ 0 ∷ 0 ∷ 0xFF ∷ 0xFF ∷ 0xFF ∷ 0xFF ∷ 0x0F ∷
+    0 ∷
+    0 ∷ []) ∷
+    -- Addresses by 6
+    renumbered 0 6 0 (done 21)
+    (1 ∷ 1 ∷ 2 ∷ 0xFF ∷ 0xFF ∷ 0xFF ∷ 0xFF ∷ 0x0F ∷ 0 ∷
+    1 ∷ 1 ∷ 0 ∷ 0 ∷ 0x80 ∷ 0x80 ∷ 0x80 ∷ 0x80 ∷ 1 ∷
+    0 ∷
+    0 ∷
+    0 ∷ [])
+    (lent 21)
+    (1 ∷ 1 ∷ 2 ∷ 0 ∷ 0xFF ∷ 0xFF ∷ 0xFF ∷ 0xFF ∷ 0x0F ∷
+    1 ∷ 1 ∷ 0 ∷ 1 ∷ 0x80 ∷ 0x80 ∷ 0x80 ∷ 0x80 ∷ 1 ∷
+    0 ∷
+    0 ∷
+    0 ∷ []) ∷ [])
 
 -- The order of refusals: the model before the bytes
 unfoldable pub modelCases : List Row
@@ -1652,7 +1756,7 @@ handedCases =
     -- m = 5
     judgedCase 0 (one 1 1 5 0 1 1 0 0 1 (0 ∷ []) (0x61 ∷ [])) (refusal 3 0) ∷
     -- An initial value too large
-    judgedCase 0 (one 1 1 1 65536 1 1 0 0 1 (0 ∷ []) (0x61 ∷ [])) (refusal 3 0) ∷
+    judgedCase 0 (one 1 1 1 4294967296 1 1 0 0 1 (0 ∷ []) (0x61 ∷ [])) (refusal 3 0) ∷
     -- 64 events, and a write order with an entry that is no store; 65 events
     judgedCase 0 (syncing 64 (63 ∷ [])) (refusal 4 0) ∷
     judgedCase 0 (syncing 65 (63 ∷ [])) (refusal 3 0) ∷
@@ -1699,7 +1803,7 @@ handedCases =
     -- Address m
     judgedCase 0 (one 1 1 1 0 1 1 0 1 1 (0 ∷ []) (0x61 ∷ [])) (refusal 3 0) ∷
     -- A value too large, before a write order that lists a load
-    judgedCase 0 (one 1 1 1 0 1 0 0 0 65536 (0 ∷ []) (0x61 ∷ [])) (refusal 3 0) ∷
+    judgedCase 0 (one 1 1 1 0 1 0 0 0 4294967296 (0 ∷ []) (0x61 ∷ [])) (refusal 3 0) ∷
     -- A write order's entry k
     judgedCase 0 (one 1 1 1 0 1 1 0 0 1 (1 ∷ []) (0x61 ∷ [])) (refusal 3 0) ∷
     -- A write order's entry that is no store, before a name of 33 bytes
@@ -1746,7 +1850,7 @@ handedCases =
     (lent 2)
     (lent 2) ∷
     -- A sync's address and value are not written
-    written (one 1 1 1 0 1 2 0 9 70000 [] (0x61 ∷ [])) 0 (done 10)
+    written (one 1 1 1 0 1 2 0 9 4294967296 [] (0x61 ∷ [])) 0 (done 10)
     (lent 15)
     (1 ∷ 1 ∷ 1 ∷ 0 ∷
     1 ∷ 2 ∷ 0 ∷
@@ -1754,7 +1858,7 @@ handedCases =
     1 ∷ 0x61 ∷
     10 ∷ 11 ∷ 12 ∷ 13 ∷ 14 ∷ []) ∷
     -- Nor an lwsync's
-    written (one 2 1 1 0 1 3 0 9 70000 [] (0x61 ∷ [])) 0 (done 11)
+    written (one 2 1 1 0 1 3 0 9 4294967296 [] (0x61 ∷ [])) 0 (done 11)
     (lent 15)
     (2 ∷ 1 ∷ 1 ∷ 0 ∷
     1 ∷ 3 ∷ 0 ∷
@@ -1795,5 +1899,5 @@ callCases =
 -- The table
 unfoldable pub records : List Row
 records =
-    paperCases ++ orderCases ++ valueCases ++ barrierCases ++ secondCases ++ layoutCases ++ secondLayoutCases
+    paperCases ++ orderCases ++ valueCases ++ barrierCases ++ secondCases ++ layoutCases ++ secondLayoutCases ++ widthCases
     ++ modelCases ++ nameCases ++ printableCases ++ renumberCases ++ handedCases ++ callCases

@@ -9,7 +9,7 @@ use Rattle.number.specs.declared.NumberRead.the-variants.{Number, Refuse
 
 -- the most groups of a number
 abbrev pub groups : ℕ
-groups = 3
+groups = 5
 
 -- what the groups say: a value and how many bytes it took; the bytes end; the form is wrong
 pub data Raw : Type 0 where
@@ -38,10 +38,10 @@ finish at limit wrong = Refused 2 at
 unfoldable pub readNumber : List ℕ → ℕ → ℕ → NumberRead
 readNumber s at limit = finish at limit (readGroups groups 0 (drop at s))
 
--- v in groups, by as much fuel as v
+-- v in groups, by as much fuel as v; `rest` is bound so that computing it ends with the groups, and not with the fuel
 unfoldable pub encodeBy : ℕ → ℕ → List ℕ
 encodeBy zero v = v ∷ []
-encodeBy (suc n) v = cond (ltb v 128) (v ∷ []) ((128 + v % 128) ∷ encodeBy n (v / 128))
+encodeBy (suc n) v = cond (ltb v 128) (v ∷ []) (let rest = encodeBy n (v / 128) in (128 + v % 128) ∷ rest)
 
 unfoldable pub encode : ℕ → List ℕ
 encode v = encodeBy v v

@@ -6,7 +6,7 @@ ghost use Rattle.number.specs.Number.{readNumber, encode, widest, splice
 ghost use Rattle.number.specs.Reader.{numberOut, refusalOf, within, under};
 
 // The most groups of a number.
-pub const GROUPS: usize = 3;
+pub const GROUPS: usize = 5;
 
 // What reading a number finds: the number and where the next one starts, or a refusal and where this one starts.
 pub enum NumberRead {

@@ -3,12 +3,15 @@
 mod cases;
 mod lines;
 mod names;
+mod numbers;
 mod records;
 mod text;
 
 use lines::judged;
 use lines::renumbered;
 use names::unprintable_names;
+use numbers::number_forms;
+use numbers::values_of_every_width;
 use text::say;
 use text::say_number;
 
@@ -85,17 +88,6 @@ fn ranges() {
     judged(b"Name length 33", &records::NAME_33);
 }
 
-fn number_forms() {
-    judged(b"Initial value 80 00", &records::LONG_FORM);
-    judged(b"Initial value 80 80 80", &records::THREE_FOLLOWED_ON);
-    judged(
-        b"Initial value 80 80 80 at the end",
-        &records::THREE_FOLLOWED,
-    );
-    judged(b"Initial value 80 80 at the end", &records::TWO_FOLLOWED);
-    judged(b"Initial value 80 80 04", &records::VALUE_65536);
-}
-
 fn composed(first: u64, then: u64) {
     say(b"First ");
     say_number(first);
@@ -123,6 +115,7 @@ fn main() {
     unfit_dependencies();
     ranges();
     number_forms();
+    values_of_every_width();
     unprintable_names();
     renumbered(b"Small record, addresses by 6", &records::SMALL, 0, 6, 2);
     renumbered(b"Small record, addresses by 1", &records::SMALL, 0, 1, 2);

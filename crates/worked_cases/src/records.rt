@@ -206,33 +206,6 @@ pub const EVENTS_64: [u8; 1231] = *b"\x01\x04\x04\x00\x00\x00\x00\
 pub const EVENTS_65: [u8; 5] = *b"\x01\x01\x01\x00\
     \x41";
 
-// Initial value 80 00.
-pub const LONG_FORM: [u8; 20] = *b"\x01\x01\x01\x80\x00\
-    \x02\x01\x00\x00\x01\x00\x00\x00\x01\
-    \x00\
-    \x01\x00\x01\
-    \x01a";
-
-// Initial value 80 80 80, at the end of the input.
-pub const THREE_FOLLOWED: [u8; 6] = *b"\x01\x01\x01\x80\x80\x80";
-
-// Initial value 80 80 80, with bytes behind it.
-pub const THREE_FOLLOWED_ON: [u8; 21] = *b"\x01\x01\x01\x80\x80\x80\
-    \x02\x01\x00\x00\x01\x00\x00\x00\x01\
-    \x00\
-    \x01\x00\x01\
-    \x01a";
-
-// Initial value 80 80, at the end of the input.
-pub const TWO_FOLLOWED: [u8; 5] = *b"\x01\x01\x01\x80\x80";
-
-// Initial value 80 80 04.
-pub const VALUE_65536: [u8; 21] = *b"\x01\x01\x01\x80\x80\x04\
-    \x02\x01\x00\x00\x01\x00\x00\x00\x01\
-    \x00\
-    \x01\x00\x01\
-    \x01a";
-
 // Name length 33.
 pub const NAME_33: [u8; 51] = *b"\x01\x01\x01\x00\
     \x02\x01\x00\x00\x01\x00\x00\x00\x01\

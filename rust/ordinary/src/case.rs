@@ -319,7 +319,7 @@ impl Case {
         let fits = EDITIONS.contains(&self.edition)
             && (1..=THREADS).contains(&self.threads())
             && (1..=ADDRESSES).contains(&self.addresses())
-            && self.initial.iter().all(|&v| v <= VALUE)
+            && self.initial.iter().all(|v| (0..=VALUE).contains(v))
             && self.events.len() <= EVENTS;
         range_fault(fits)
     }
@@ -327,7 +327,8 @@ impl Case {
     fn events_fault(&self) -> u32 {
         let fits = |e: &Event| {
             let kind = (e.kind as usize) < Kind::count(self.edition);
-            let access = e.is_barrier() || (e.address < self.addresses() && e.value <= VALUE);
+            let access =
+                e.is_barrier() || (e.address < self.addresses() && (0..=VALUE).contains(&e.value));
             kind && e.thread < self.threads() && access
         };
         range_fault(self.events.iter().all(fits))

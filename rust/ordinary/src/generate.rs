@@ -17,7 +17,7 @@ use crate::random::Random;
 use crate::write;
 use names::any_name;
 use program::{any_program, good_dependencies, interleaving, loads, program, reordered};
-use program::{value_in, write_in};
+use program::{value_bit, value_in, write_in};
 
 /// An accepted execution of `count` events with every thread and address in use: all threads see
 /// all events in one order.
@@ -121,7 +121,7 @@ fn change(random: &mut Random, case: &mut Case) {
     let (a, b) = (random.below(count), random.below(count));
     let p = random.below(case.threads());
     let address = random.below(case.addresses());
-    match random.below(8) {
+    match random.below(9) {
         0 => case.orders[p].remove(a, b),
         1 => case.orders[p].insert(a, b),
         2 => {
@@ -137,6 +137,11 @@ fn change(random: &mut Random, case: &mut Case) {
             }
         }
         6 => forget_own(case, a),
+        7 => {
+            if !case.events[a].is_barrier() {
+                case.events[a].value ^= value_bit(random);
+            }
+        }
         _ if case.edition == FIRST => {}
         _ => change_of_second(random, case, a),
     }

@@ -18,13 +18,13 @@ pub const EVENTS: usize = 64;
 /// Most dependencies.
 pub const DEPENDENCIES: usize = 96;
 /// Greatest value.
-pub const VALUE: u32 = 65_535;
+pub const VALUE: u32 = u32::MAX;
 /// Most bytes of a name.
 pub const NAME: usize = 32;
 /// The bytes that may stand in a name: what prints in ASCII.
 pub const PRINTABLE: RangeInclusive<u8> = 32..=126;
 /// Most groups of seven bits in a number.
-pub const GROUPS: usize = 3;
+pub const GROUPS: usize = 5;
 
 /// Labels that a permutation moves: threads or addresses.
 pub const LABELS: usize = if THREADS > ADDRESSES {

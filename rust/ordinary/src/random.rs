@@ -27,6 +27,13 @@ impl Random {
         least + self.below(most - least + 1)
     }
 
+    /// A number up to `most`, of each number of bits alike.
+    pub fn of_any_width(&mut self, most: u32) -> u32 {
+        let number = self.number() as u32;
+        let dropped = self.below(33) as u32;
+        number.checked_shr(dropped).unwrap_or(0).min(most)
+    }
+
     /// True once in `times` on average.
     pub fn once_in(&mut self, times: usize) -> bool {
         self.below(times) == 0

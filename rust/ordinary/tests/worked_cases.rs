@@ -196,17 +196,18 @@ fn numbers() {
     let initial = |bytes: &[u8]| read::answer(&[&[1, 1, 1], bytes].concat());
     assert_eq!(read::answer(&[]), refused(ENDS, 0));
     assert_eq!(initial(&[0x80, 0]), refused(FORM, 3));
-    assert_eq!(initial(&[0x80; GROUPS]), refused(FORM, 3));
-    assert_eq!(initial(&[0x80; GROUPS - 1]), refused(ENDS, 3));
-    let most = write::number(VALUE.into());
-    assert_eq!(
-        initial(&write::number(u64::from(VALUE) + 1)),
-        refused(RANGE, 3)
-    );
-    assert_eq!(initial(&most), refused(ENDS, 3 + most.len()));
+    assert_eq!(initial(&[0x80, 0x80, 0x80, 0x80, 0]), refused(FORM, 3));
+    assert_eq!(initial(&[0x80; 5]), refused(FORM, 3));
+    assert_eq!(initial(&[0x80; 4]), refused(ENDS, 3));
+    assert_eq!(initial(&[0x80; 3]), refused(ENDS, 3));
+    assert_eq!(initial(&[0x80, 0x80, 0x80, 0x80, 0x10]), refused(RANGE, 3));
+    // Both are read, and then the bytes end.
+    assert_eq!(initial(&[0x80, 0x80, 4]), refused(ENDS, 6));
+    assert_eq!(initial(&[0xff, 0xff, 0xff, 0xff, 0xf]), refused(ENDS, 8));
     assert_eq!(write::number(0), [0]);
     assert_eq!(write::number(65_535), [0xff, 0xff, 3]);
     assert_eq!(write::number(65_536), [0x80, 0x80, 4]);
+    assert_eq!(write::number(VALUE.into()), [0xff, 0xff, 0xff, 0xff, 0xf]);
 }
 
 #[test]
@@ -342,7 +343,8 @@ fn numbers_of_dependencies() {
     assert_eq!(second(&events, &[DEPENDENCIES as u8]), refused(ENDS, 1));
     assert_eq!(second(&events, &[1, 1, 0]), refused(ENDS, 3));
     assert_eq!(second(&events, &[1, 0x81, 0]), refused(FORM, 1));
-    assert_eq!(second(&events, &[1, 0, 0x80, 0x80, 0x80]), refused(FORM, 2));
+    let too_many = [&[1, 0], &[0x80; GROUPS][..]].concat();
+    assert_eq!(second(&events, &too_many), refused(FORM, 2));
     assert_eq!(second(&[], &[1, 0, 0x80]), refused(ENDS, 2));
     let past_the_kinds = Kind::ALL.len() as u8;
     let record = [SECOND as u8, 1, 1, 0, 1, past_the_kinds];

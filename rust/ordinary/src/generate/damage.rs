@@ -89,7 +89,7 @@ fn with_odd_number(random: &mut Random, case: &Case) -> Vec<u8> {
 fn odd_number(random: &mut Random, value: u32) -> Vec<u8> {
     let mut bytes = write::number(value.into());
     let more = |byte: &mut u8| *byte |= 128;
-    match random.below(5) {
+    match random.below(6) {
         0 => {
             bytes.iter_mut().for_each(more);
             bytes.push(0);
@@ -101,7 +101,8 @@ fn odd_number(random: &mut Random, value: u32) -> Vec<u8> {
         }
         2 => bytes.iter_mut().for_each(more),
         3 => bytes = write::number(u64::from(VALUE) + random.below(3) as u64),
-        _ => bytes = write::number(random.below(VALUE as usize) as u64),
+        4 => bytes = write::number(u64::from(value) + (1 << 32)),
+        _ => bytes = write::number(random.of_any_width(VALUE).into()),
     }
     bytes
 }

@@ -113,13 +113,19 @@ pub fn good_dependencies(case: &Case) -> Vec<Dependency> {
         .collect()
 }
 
-/// Often small, so that values come up again.
+/// Often small, so that values come up again; now and then such a one with another bit.
 fn any_value(random: &mut Random) -> u32 {
     match random.below(8) {
-        0 => random.below(VALUE as usize) as u32,
+        0 => random.of_any_width(VALUE),
         1 => VALUE - random.below(2) as u32,
+        2 => random.below(6) as u32 | value_bit(random),
         _ => random.below(6) as u32,
     }
+}
+
+/// Any bit of a value.
+pub fn value_bit(random: &mut Random) -> u32 {
+    1 << random.from_to(0, VALUE.ilog2() as usize)
 }
 
 /// All events in an order that keeps each thread's program order.
