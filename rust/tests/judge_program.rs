@@ -33,6 +33,20 @@ fn judge(words: &[&OsStr], input: &[u8]) -> String {
     String::from_utf8(output).expect("it is printable")
 }
 
+/// Values are printed with all their digits.
+#[test]
+fn the_greatest_value_is_printed() {
+    let greatest = [0xff, 0xff, 0xff, 0xff, 0xf];
+    let front: &[u8] = &[1, 1, 2, 7, 0, 1, 1, 0, 1];
+    let record = [front, &greatest, &[0, 0, 0]].concat();
+    let printed = judge(&[], &record);
+    let finals = "accepted; final values: 7 at address 0, 4294967295 at address 1\n";
+    for model in ["PPCw", "PPCs"] {
+        let line = format!("  {model}     {finals}");
+        assert!(printed.contains(&line), "{printed}");
+    }
+}
+
 /// A record that is refused ends the input: its number, its place in the input and what it means.
 #[test]
 fn a_refused_record_ends_the_input() {
@@ -43,6 +57,7 @@ fn a_refused_record_ends_the_input() {
     let refused = [
         (short, 4, "1", "the bytes end inside"),
         (vec![0x81, 0], 0, "2", "a number has too many groups"),
+        (vec![0x81; 5], 0, "2", "a number has too many groups"),
         (vec![3], 0, "3", "a number is outside its range"),
         (unlisted, 13, "4", "a dependency is unfit, a write order"),
         (named(b"a\x1b[1m"), 19, "23", "a byte of the name is not"),

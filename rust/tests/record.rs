@@ -51,6 +51,10 @@ fn says_what_is_wrong() {
             "line 5: from event 0 to event 1: only a store can depend on a load by data or control",
         ),
         (
+            "event load 0 x=4294967296\n",
+            "line 3: '4294967296' is not a number from 0 to 4294967295",
+        ),
+        (
             "edition 1\nevent lwsync 0\n",
             "line 4: edition 1 has no lwsync",
         ),
@@ -70,9 +74,28 @@ fn says_what_is_wrong() {
     assert!(usage.starts_with(b"usage: record"));
 }
 
+/// The greatest value, as an initial one, stored and loaded.
+#[test]
+fn takes_the_greatest_value() {
+    let text = "threads 1\naddresses x\ninitial x=4294967295\n\
+        event store 0 x=4294967295\nevent load 0 x=4294967295\norder 0 closed: 0<1\n";
+    let greatest = [0xff, 0xff, 0xff, 0xff, 0xf];
+    let parts: [&[u8]; 7] = [
+        &[1, 1, 1],
+        &greatest,
+        &[2, 1, 0, 0],
+        &greatest,
+        &[0, 0, 0],
+        &greatest,
+        &[0, 1, 0, 1, 0],
+    ];
+    assert_eq!(record(&[], text).stdout, parts.concat());
+}
+
 #[test]
 fn helps() {
     let help = record(&[Path::new("--help")], "").stdout;
     let help = String::from_utf8(help).expect("text");
     assert!(help.starts_with("usage: record") && help.ends_with(ordinary::text::HELP));
+    assert!(help.contains(&format!("Values are 0 to {}.", ordinary::limits::VALUE)));
 }

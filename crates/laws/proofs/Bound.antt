@@ -1,20 +1,20 @@
 -- A record is bytes, and not longer than the limits allow.
 -- Assumes nothing.
-use Prim.Native.Nat.{ℕ, zero, suc, _+_, _-_, _*_, _/_, _%_, _^_, _≤_, _<_}
-use native.Mathlib.Nat.{mul-le-mul, mul-le-mul-right, zero-mul, suc-mul, add-mul, one-mul, le-refl, le-trans, div-lt-iff-lt-mul, pow-suc}
+use Prim.Native.Nat.{ℕ, zero, suc, _+_, _-_, _*_, _/_, _%_, _≤_, _<_}
+use native.Mathlib.Nat.{mul-le-mul, mul-le-mul-right, zero-mul, suc-mul, add-mul, one-mul, le-refl, le-trans}
 use native.Mathlib.Decide.{decLt}
 use native.Mathlib.Omega.{arith}
 use mathlib.Core.Path.{_≡_, refl, sym, ap, _∙_}
 use mathlib.Core.Bool.{Bool, true, false, not, cond, _&&_, _||_}
 use mathlib.Core.List.{List, [], _∷_, _++_, append-assoc}
-use lib.Dec.{eqb, leb, ltb, lit<}
+use lib.Dec.{eqb, leb, ltb}
 use lib.ListN.{length, getD, length-append}
 use borrow.Author.Tests.{leb-true, ltb-true, ltb-false, eqb-true, ne-eqb}
 use Rattle.finite.specs.Tests.{count, tick}
 use Rattle.finite.specs.Lists.{each}
 use Rattle.finite.proofs.Tests.{and-l, and-r, count-mono}
-use Rattle.number.specs.Number.{groups, encodeBy, encode}
-use Rattle.number.proofs.Encoding.{fuel-any, encode-low, encode-high}
+use Rattle.number.specs.Number.{encodeBy, encode}
+use Rattle.number.proofs.Encoding.{fuel-any}
 use Rattle.model.specs.Limits.{mostEdition, second, mostThreads, mostAddresses, mostEvents, mostDependencies, mostValue, mostName}
 use Rattle.model.specs.Case.{Case, Event, Dependency, noEvent, load, store, mostKind, bare, byAddress, mostClass}
 use Rattle.model.specs.Record.{Pair, dependencyGood, dependencyRank, leastAfter, storeTo}
@@ -371,37 +371,10 @@ module _ (c : Case) (F : Fits c) where
 
 -- ---- the most bytes as a numeral
 
--- few groups want little fuel
-encode-by : (g v : ℕ) → v < 128 ^ suc g → encode v ≡ encodeBy g v
-unfolding encodeBy
-encode-by zero v h = encode-low v h
-encode-by (suc g) v h = go (ltb v 128) refl (encode-by g (v / 128))
-  where
-    go : (x : Bool) → ltb v 128 ≡ x → (v / 128 < 128 ^ suc g → encode (v / 128) ≡ encodeBy g (v / 128))
-        → encode v ≡ cond x (v ∷ []) ((128 + v % 128) ∷ encodeBy g (v / 128))
-    go true p ih = encode-low v (ltb-true v 128 p)
-    go false p ih =
-        encode-high v (ltb-false v 128 p)
-        ∙ ap (λ (l : List ℕ). (128 + v % 128) ∷ l) (ih (div-lt-iff-lt-mul (omega arith) .1 (rw pow-suc at h)))
-
-size-by : (v : ℕ) → v < 128 ^ groups → size v ≡ length (encodeBy (groups - 1) v)
-size-by v h = ap length (encode-by (groups - 1) v h)
-
 -- 01: "record bytes"; 02 (xii): "An edition 1 record may be 33,409 bytes", (viii): "edition 2 has 288 more"
 pub most-is : (mostBytes 1 ≡ 33409) × (mostBytes 2 ≡ 33409 + 288)
-unfolding mostBytes mostLinkBytes mostEventBytes mostOrderBytes mostDependencyBytes mostKind encodeBy
-most-is =
-    simp (
-      size-by mostEdition (lit< tt),
-      size-by mostThreads (lit< tt),
-      size-by mostEvents (lit< tt),
-      size-by mostValue (lit< tt),
-      size-by mostDependencies (lit< tt),
-      size-by (mostThreads - 1) (lit< tt),
-      size-by (mostEvents * mostEvents) (lit< tt),
-      size-by (mostEvents - 1) (lit< tt),
-      size-by mostName (lit< tt),
-    ) (refl, refl)
+unfolding mostBytes mostLinkBytes mostEventBytes mostOrderBytes mostDependencyBytes mostKind encodeBy encode
+most-is = (refl, refl)
 
 -- but for the second, every edition's is the first's
 pub most-first : (edition : ℕ) → second edition ≡ false → mostBytes edition ≡ mostBytes 1

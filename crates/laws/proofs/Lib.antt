@@ -7,6 +7,7 @@ pub mod ExactOrder
 pub mod ExactCase
 pub mod Faultless
 pub mod Bound
+pub mod Greatest
 pub mod Meaning
 pub mod Models
 pub mod Printed
