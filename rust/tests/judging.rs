@@ -6,7 +6,7 @@ use common::plain;
 use ordinary::answer::MODEL;
 use ordinary::generate;
 use ordinary::judge::{judge, printed_verdict, PPCS, PPCW};
-use ordinary::judge::{verdict_with_syncs, verdict_without_dependencies};
+use ordinary::judge::{verdict_with_16_bits, verdict_with_syncs, verdict_without_dependencies};
 use ordinary::limits::{EDITIONS, EVENTS};
 use ordinary::random::Random;
 use ordinary::tally::{heading, model_name, stated_edition, Tally};
@@ -27,6 +27,7 @@ struct Changes {
     own_events: Tally,
     lwsyncs: Tally,
     dependencies: Tally,
+    high_bits: Tally,
 }
 
 impl Changes {
@@ -48,6 +49,9 @@ impl Changes {
         if verdict_without_dependencies(case, model) != number {
             self.dependencies.add(model_name(model), number);
         }
+        if verdict_with_16_bits(case, model) != number {
+            self.high_bits.add(model_name(model), number);
+        }
     }
 
     fn assert_enough(&self) {
@@ -58,7 +62,9 @@ impl Changes {
         self.own_events.assert_each(model_name(PPCS), 15..=16, 20);
         println!("other answers if lwsyncs were syncs:\n{}", self.lwsyncs);
         println!("answers that dependencies change:\n{}", self.dependencies);
+        println!("answers that more than 16 bits change:\n{}", self.high_bits);
         for model in [PPCW, PPCS] {
+            self.high_bits.assert_each(model_name(model), 15..=16, 20);
             self.lwsyncs.assert_each(model_name(model), 17..=18, 20);
             self.dependencies.assert_each(model_name(model), [13], 20);
         }

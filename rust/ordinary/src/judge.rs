@@ -79,6 +79,16 @@ pub fn verdict_without_dependencies(case: &Case, model: u64) -> u32 {
     verdict(&case, model)
 }
 
+/// The same if values had 16 bits.
+pub fn verdict_with_16_bits(case: &Case, model: u64) -> u32 {
+    let mut case = case.clone();
+    let stored = case.events.iter_mut().map(|event| &mut event.value);
+    for value in case.initial.iter_mut().chain(stored) {
+        *value &= 0xffff;
+    }
+    verdict(&case, model)
+}
+
 fn lowest_broken(case: &Case, model: u64, sees_own: bool) -> u32 {
     let judged = Judged {
         case,

@@ -4,7 +4,7 @@ use ordinary::answer::{Refusal, MISPLACED, UNPRINTABLE};
 use ordinary::generate::{self, Duty};
 use ordinary::judge::{judge, judge_case, verdict, PPCS, PPCW};
 use ordinary::judge::{verdict_with_syncs, verdict_without_dependencies};
-use ordinary::limits::{most_bytes, EDITIONS, EVENTS, FIRST, SECOND};
+use ordinary::limits::{most_bytes, EDITIONS, EVENTS, FIRST, GROUPS, SECOND};
 use ordinary::random::Random;
 use ordinary::tally::{edition_name, model_name, Tally};
 use ordinary::{permutation, read, renumber, rows, write, Case};
@@ -157,6 +157,21 @@ fn a_duty_left_out_breaks_its_rules() {
             assert!(broken, "{rules:?} in edition {edition}");
         }
     }
+}
+
+#[test]
+fn values_of_every_width() {
+    let mut random = Random::new(8);
+    let mut counts = [0; GROUPS];
+    for _ in 0..10_000 {
+        let case = generate::any_case(&mut random);
+        let stored = case.events.iter().map(|event| event.value);
+        for value in case.initial.iter().copied().chain(stored) {
+            counts[write::number(value.into()).len() - 1] += 1;
+        }
+    }
+    println!("values of each number of groups: {counts:?}");
+    assert!(counts.iter().all(|&count| count > 200));
 }
 
 #[test]
