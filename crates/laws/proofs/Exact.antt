@@ -16,6 +16,7 @@ use Rattle.number.specs.Number.{Raw, got, short, wrong, readGroups, finish, rea
 use Rattle.number.specs.Reader.{Out, stop, next, Reader, give, _>>=_, onward, unless, tested, turns, another, times, upTo, within, below, under, numberOut}
 use Rattle.number.specs.declared.NumberRead.the-variants as the
 use Rattle.number.proofs.Laws as number
+use Rattle.number.proofs.Forms.{WrongForm, wrong-form}
 use Rattle.model.specs.Case.{printable}
 use Rattle.model.specs.Record.{bytes, printableFront, printed, text}
 use Rattle.laws.proofs.Fits.{All, Bytes}
@@ -43,11 +44,12 @@ pub record Took {A : Type 0} (Q : A → List ℕ → Type 0) (s : List ℕ) (at 
   pub place : p ≡ at + length bs
   pub holds : Q a bs
 
--- a number or the bytes' end is at fault, at a place within the bytes
+-- a number or the bytes' end is at fault, at a place within the bytes; under 2 the number there has a wrong form
 pub record Malformed (s : List ℕ) (x p : ℕ) : Type 0 where
   pub least : 1 ≤ x
   pub most : x ≤ 4
   pub within : p ≤ length s
+  pub form : x ≡ 2 → WrongForm s p
 
 -- a byte of the name is at fault
 pub record Unprintable (s : List ℕ) (x p : ℕ) : Type 0 where
@@ -127,7 +129,7 @@ exact-fits p f = exact-map p (λ a bs Q. record { same = Q .same; fits = f a (Q 
 
 -- what was read has passed the test
 pub exact-unless : {A : Type 0} (x : ℕ) (test : A → Bool) {r : Reader A} {enc : A → List ℕ} {P : A → Type 0}
-    → 1 ≤ x → x ≤ 4 → Exact r (As enc P) → Exact (unless x test r) (As enc (λ a. P a × (test a ≡ true)))
+    → 3 ≤ x → x ≤ 4 → Exact r (As enc P) → Exact (unless x test r) (As enc (λ a. P a × (test a ≡ true)))
 unfolding unless
 exact-unless {A} x test {r} {enc} {P} lo hi p = record { run = λ s at h l. go s at l (r s at) (p .run s at h l) }
   where
@@ -136,26 +138,26 @@ exact-unless {A} x test {r} {enc} {P} lo hi p = record { run = λ s at h l. go s
     go s at l (next a i) G = passed (test a) refl
       where
         passed : (y : Bool) → test a ≡ y → Outcome (As enc (λ a. P a × (test a ≡ true))) s at (cond y (next a i) (stop x at))
-        passed false k = inl (record { least = lo; most = hi; within = l })
+        passed false k = inl (record { least = omega (arith, lo); most = hi; within = l; form = λ e. absurd (omega (arith, lo)) })
         passed true k =
             record { bs = G .bs; whole = G .whole; place = G .place; holds = record { same = G .holds .same; fits = (G .holds .fits, k) } }
 
 pub exact-up-to : (hi : ℕ) → Exact (upTo hi) (As encode (λ v. v ≤ hi))
 unfolding upTo readNumber finish
 exact-up-to hi = record {
-  run = λ s at h l. go s at l (readGroups groups 0 (drop at s))
+  run = λ s at h l. go s at l (readGroups groups 0 (drop at s)) (wrong-form s at)
       (λ w j. number.read-is-encoded groups 0 (drop at s) w j (lit≤ tt) (number-bytes (drop at s) (all-drop _ at s h)));
 }
   where
-    go : (s : List ℕ) (at : ℕ) → at ≤ length s → (r : Raw) → ((w j : ℕ) → r ≡ got w j → number.Encoded 0 (drop at s) w j)
+    go : (s : List ℕ) (at : ℕ) → at ≤ length s → (r : Raw) → (r ≡ wrong → WrongForm s at) → ((w j : ℕ) → r ≡ got w j → number.Encoded 0 (drop at s) w j)
         → Outcome (As encode (λ v. v ≤ hi)) s at (numberOut (finish at hi r))
-    go s at l short g = inl (record { least = lit≤ tt; most = lit≤ tt; within = l })
-    go s at l wrong g = inl (record { least = lit≤ tt; most = lit≤ tt; within = l })
-    go s at l (got w j) g = small (ltb hi w) refl (g w j refl)
+    go s at l short f g = inl (record { least = lit≤ tt; most = lit≤ tt; within = l; form = λ e. absurd (omega arith) })
+    go s at l wrong f g = inl (record { least = lit≤ tt; most = lit≤ tt; within = l; form = λ e. f refl })
+    go s at l (got w j) f g = small (ltb hi w) refl (g w j refl)
       where
         small : (y : Bool) → ltb hi w ≡ y → number.Encoded 0 (drop at s) w j
             → Outcome (As encode (λ v. v ≤ hi)) s at (numberOut (cond y (the.Refused 3 at) (the.Number w (at + j))))
-        small true k G = inl (record { least = lit≤ tt; most = lit≤ tt; within = l })
+        small true k G = inl (record { least = lit≤ tt; most = lit≤ tt; within = l; form = λ e. absurd (omega arith) })
         small false k G = record {
           bs = encode w;
           whole = sym (take-append-drop j (drop at s)) ∙ rw (G .bytes, drop-drop j at s);
@@ -246,7 +248,7 @@ exact-bytes i = record { run = λ s at h l. go s at l (leb (at + i) (length s)) 
   where
     go : (s : List ℕ) (at : ℕ) → at ≤ length s → (y : Bool) → leb (at + i) (length s) ≡ y
         → Outcome (As (λ l. l) (λ l. length l ≡ i)) s at (cond y (next (take i (drop at s)) (at + i)) (stop 1 at))
-    go s at l false k = inl (record { least = lit≤ tt; most = lit≤ tt; within = l })
+    go s at l false k = inl (record { least = lit≤ tt; most = lit≤ tt; within = l; form = λ e. absurd (omega arith) })
     go s at l true k =
         let fits : at + i ≤ length s = leb-true (at + i) (length s) k in
         let size : length (take i (drop at s)) ≡ i = length-take-le i (drop at s) (rw length-drop (omega arith)) in

@@ -256,7 +256,7 @@ readable-back s c i R = ap read (R .whole) ∙ read-back c (R .fits) (drop i s) 
 pub readable-iff : (s : List ℕ) → Bytes s → (c : Case) (i : ℕ) → (read s ≡ next c i) ↔ Readable s c i
 readable-iff s h c i = (readable s h c i, readable-back s c i)
 
--- a refusal is one of 1 to 4, at a place within the bytes, or 23 at a byte that is not printable
+-- a refusal is one of 1 to 4, at a place within the bytes, where under 2 a number has a wrong form; or 23 at a byte that is not printable
 pub refused : (s : List ℕ) → Bytes s → (x p : ℕ) → read s ≡ stop x p → Refused s x p
 unfolding read
 refused s h x p e = rw e at (exact-case .run s 0 h (omega arith))
