@@ -1380,6 +1380,8 @@ widthCases =
     ++ valueOf 16384 (0x80 ∷ 0x80 ∷ 1 ∷ []) ++ valueOf 2097151 (0xFF ∷ 0xFF ∷ 0x7F ∷ [])
     ++ valueOf 2097152 (0x80 ∷ 0x80 ∷ 0x80 ∷ 1 ∷ []) ++ valueOf 268435455 (0xFF ∷ 0xFF ∷ 0xFF ∷ 0x7F ∷ [])
     ++ valueOf 268435456 (0x80 ∷ 0x80 ∷ 0x80 ∷ 0x80 ∷ 1 ∷ []) ++ valueOf 4294967295 (0xFF ∷ 0xFF ∷ 0xFF ∷ 0xFF ∷ 0x0F ∷ []) ++
+    -- 01's: 65,535 and 65,536
+    valueOf 65535 (0xFF ∷ 0xFF ∷ 3 ∷ []) ++ valueOf 65536 (0x80 ∷ 0x80 ∷ 4 ∷ []) ++
     -- The last of two to five groups is zero
     table 1 4 (λ w. alike (refusal 2 3) (numberAs (smallNamed []) (following w ++ (0 ∷ [])) 3)) ++
     -- The bytes end behind up to four groups, then behind the fifth
