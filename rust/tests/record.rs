@@ -98,4 +98,5 @@ fn helps() {
     let help = String::from_utf8(help).expect("text");
     assert!(help.starts_with("usage: record") && help.ends_with(ordinary::text::HELP));
     assert!(help.contains(&format!("Values are 0 to {}.", ordinary::limits::VALUE)));
+    assert!(help.lines().all(|line| line.len() <= 80), "{help}");
 }

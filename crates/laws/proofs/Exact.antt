@@ -61,6 +61,10 @@ pub record Unprintable (s : List ℕ) (x p : ℕ) : Type 0 where
 abbrev pub Refused : List ℕ → (x p : ℕ) → Type 0
 Refused s x p = Malformed s x p ⊎ Unprintable s x p
 
+-- a refusal that says nothing of a number's form
+other-than-2 : {s : List ℕ} {p : ℕ} (x : ℕ) → 1 ≤ x → x ≤ 4 → (x ≡ 2 → ⊥) → p ≤ length s → Refused s x p
+other-than-2 x lo hi n l = inl (record { least = lo; most = hi; within = l; form = λ e. absurd (n e) })
+
 pub refused-least : {s : List ℕ} {x p : ℕ} → Refused s x p → 1 ≤ x
 refused-least r = ⊎-elim (λ m. m .least) (λ u. omega (arith, u .number)) r
 
@@ -138,7 +142,7 @@ exact-unless {A} x test {r} {enc} {P} lo hi p = record { run = λ s at h l. go s
     go s at l (next a i) G = passed (test a) refl
       where
         passed : (y : Bool) → test a ≡ y → Outcome (As enc (λ a. P a × (test a ≡ true))) s at (cond y (next a i) (stop x at))
-        passed false k = inl (record { least = omega (arith, lo); most = hi; within = l; form = λ e. absurd (omega (arith, lo)) })
+        passed false k = other-than-2 x (omega (arith, lo)) hi (λ e. omega (arith, lo)) l
         passed true k =
             record { bs = G .bs; whole = G .whole; place = G .place; holds = record { same = G .holds .same; fits = (G .holds .fits, k) } }
 
@@ -151,13 +155,13 @@ exact-up-to hi = record {
   where
     go : (s : List ℕ) (at : ℕ) → at ≤ length s → (r : Raw) → (r ≡ wrong → WrongForm s at) → ((w j : ℕ) → r ≡ got w j → number.Encoded 0 (drop at s) w j)
         → Outcome (As encode (λ v. v ≤ hi)) s at (numberOut (finish at hi r))
-    go s at l short f g = inl (record { least = lit≤ tt; most = lit≤ tt; within = l; form = λ e. absurd (omega arith) })
+    go s at l short f g = other-than-2 1 (lit≤ tt) (lit≤ tt) (λ e. omega arith) l
     go s at l wrong f g = inl (record { least = lit≤ tt; most = lit≤ tt; within = l; form = λ e. f refl })
     go s at l (got w j) f g = small (ltb hi w) refl (g w j refl)
       where
         small : (y : Bool) → ltb hi w ≡ y → number.Encoded 0 (drop at s) w j
             → Outcome (As encode (λ v. v ≤ hi)) s at (numberOut (cond y (the.Refused 3 at) (the.Number w (at + j))))
-        small true k G = inl (record { least = lit≤ tt; most = lit≤ tt; within = l; form = λ e. absurd (omega arith) })
+        small true k G = other-than-2 3 (lit≤ tt) (lit≤ tt) (λ e. omega arith) l
         small false k G = record {
           bs = encode w;
           whole = sym (take-append-drop j (drop at s)) ∙ rw (G .bytes, drop-drop j at s);
@@ -248,7 +252,7 @@ exact-bytes i = record { run = λ s at h l. go s at l (leb (at + i) (length s)) 
   where
     go : (s : List ℕ) (at : ℕ) → at ≤ length s → (y : Bool) → leb (at + i) (length s) ≡ y
         → Outcome (As (λ l. l) (λ l. length l ≡ i)) s at (cond y (next (take i (drop at s)) (at + i)) (stop 1 at))
-    go s at l false k = inl (record { least = lit≤ tt; most = lit≤ tt; within = l; form = λ e. absurd (omega arith) })
+    go s at l false k = other-than-2 1 (lit≤ tt) (lit≤ tt) (λ e. omega arith) l
     go s at l true k =
         let fits : at + i ≤ length s = leb-true (at + i) (length s) k in
         let size : length (take i (drop at s)) ≡ i = length-take-le i (drop at s) (rw length-drop (omega arith)) in

@@ -27,10 +27,10 @@ A case is a text of lines such as these; # starts a comment.
     order 1 pairs: 3<4, 3<5         thread 1's order: these pairs and no others
 
 Values are 0 to 4294967295. Events are numbered from 0 as listed. A thread's
-program order is the order in which its events are listed. A thread without an order line has no pairs. What
-depends on a load is listed after it in the same thread: a load or a store by
-address, a store by data or control. Dependencies may stand in any order after
-the events that they name.
+program order is the order in which its events are listed. A thread without an
+order line has no pairs. What depends on a load is listed after it in the same
+thread: a load or a store by address, a store by data or control. Dependencies
+may stand in any order after the events that they name.
 ";
 
 /// What is wrong with a text, and in which line.
