@@ -12,11 +12,12 @@ use Rattle.finite.specs.Tests.{count}
 use Rattle.finite.specs.Lists.{table}
 use Rattle.finite.proofs.Tests.{count-le}
 use Rattle.finite.proofs.Lists.{table-same, as-table}
+use Rattle.finite.proofs.All.{all-at, from-at}
 use Rattle.model.specs.Limits.{second, mostAddresses, mostEvents, mostDependencies, mostName}
 use Rattle.model.specs.Case.{Case, Event, noEvent, bare}
 use Rattle.model.specs.Record.{storeTo}
-use Rattle.laws.proofs.Fits.{EventFits, Fits}
-use Rattle.laws.proofs.AllFrom.{all-at, from-at, writes-from}
+use Rattle.model.specs.Fits.{EventFits, Fits}
+use Rattle.model.proofs.WriteOrders.{writes-from}
 use Rattle.case.specs.Held.{pad, rowsOf, held, eventOf, eventsOf, link, linkCount, linksOf, caseOf}
 use Rattle.case.proofs.Events.{event-by}
 use Rattle.case.proofs.Pad.{length-pad, pad-get}

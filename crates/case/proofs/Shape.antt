@@ -7,11 +7,11 @@ use mathlib.Core.Bool.{true, true≢false}
 use lib.Pow.{pow-pos}
 use Rattle.finite.specs.Lists.{table}
 use Rattle.finite.proofs.Lists.{table-length}
+use Rattle.finite.proofs.All.{all-table, from-table}
 use Rattle.model.specs.Case.{Case, bare}
 use Rattle.model.specs.Fault.{fault}
-use Rattle.laws.proofs.Fits.{Fits}
-use Rattle.laws.proofs.AllFrom.{all-table, from-table}
-use Rattle.laws.proofs.Faultless.{Shaped, faultless, fits-of}
+use Rattle.model.specs.Fits.{Fits, Shaped}
+use Rattle.model.proofs.Faultless.{faultless, fits-of}
 use Rattle.case.specs.declared.Case.{Case as Held}
 use Rattle.case.specs.Held.{eventOf, eventsOf, linkCount, linksOf, caseOf, held}
 use Rattle.case.specs.Sound.{Sound}

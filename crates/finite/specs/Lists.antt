@@ -1,4 +1,4 @@
--- Lists made of a function's values, and a test of a list's elements.
+-- Lists made of a function's values, and what holds of a list's elements.
 -- Assumes nothing.
 use Prim.Native.Nat.{ℕ, zero, suc, _+_}
 use mathlib.Core.Bool.{Bool, true, _&&_}
@@ -18,3 +18,13 @@ each f (a ∷ as′) = f a ++ each f as′
 unfoldable pub every : {A : Type 0} → (A → Bool) → List A → Bool
 every f [] = true
 every f (a ∷ as′) = f a && every f as′
+
+-- P holds of every element
+abbrev pub All : {A : Type 0} → (A → Type 0) → List A → Type 0
+All P [] = Unit {0}
+All P (a ∷ as′) = P a × All P as′
+
+-- P holds of each element and its number, counted from i
+abbrev pub AllFrom : {A : Type 0} → (ℕ → A → Type 0) → ℕ → List A → Type 0
+AllFrom P i [] = Unit {0}
+AllFrom P i (a ∷ as′) = P i a × AllFrom P (suc i) as′

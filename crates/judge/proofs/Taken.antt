@@ -8,10 +8,10 @@ use lib.ListN.{length, drop, getD, length-append}
 use mir.Syntax.{w8}
 use mir.Val.{Fits}
 use Rattle.number.specs.Reader.{Out, stop, next}
+use Rattle.number.specs.Number.{Bytes}
 use Rattle.model.specs.Case.{Case}
 use Rattle.model.specs.Record.{read}
 use Rattle.model.specs.Written.{recordOf}
-use Rattle.laws.proofs.Fits.{Bytes}
 use Rattle.laws.proofs.ExactCase.{Readable, readable}
 use Rattle.litmus.specs.declared.CaseAnswer.{CaseAnswer}
 use Rattle.litmus.specs.Shown.{caseShown}

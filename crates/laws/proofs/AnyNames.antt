@@ -14,6 +14,7 @@ use lib.Seq.{length-take-le}
 use borrow.Author.Tests.{leb-true, le-leb}
 use Rattle.finite.specs.Lists.{every}
 use Rattle.number.specs.Reader.{Out, stop, next, Reader, give, _>>=_, onward, turns, times, upTo}
+use Rattle.codec.proofs.ReadsAs.{ReadsAs, reads-bind, reads-last, reads-up-to}
 use Rattle.model.specs.Limits.{between, leastEdition, mostEdition, mostThreads, mostAddresses, mostEvents, mostDependencies, mostValue, mostName}
 use Rattle.model.specs.Case.{Case, printable}
 use Rattle.model.specs.Rules.{orElse}
@@ -21,9 +22,9 @@ use Rattle.model.specs.Record.{dependencyGood, dependencies, storeTo, nextWrite
 use Rattle.model.specs.Written.{recordOf}
 use Rattle.model.specs.Fault.{eventGood, firstFault, dependencyFault, writesFault, nameFault, fault}
 use Rattle.model.specs.Answers.{handed}
-use Rattle.laws.proofs.Fits.{Fits}
-use Rattle.laws.proofs.ReadBack.{ReadsAs, reads-bind, reads-last, reads-up-to, reads-bytes, restBytes, restOf, parted, reads-writes, reads-orders, reads-head, reads-listing, reads-links}
-use Rattle.laws.proofs.Faultless.{faultless}
+use Rattle.model.specs.Fits.{Fits}
+use Rattle.model.proofs.Faultless.{faultless}
+use Rattle.laws.proofs.ReadBack.{reads-bytes, restBytes, restOf, parted, reads-writes, reads-orders, reads-head, reads-listing, reads-links}
 
 -- ---- what was: reading
 

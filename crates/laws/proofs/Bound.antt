@@ -11,20 +11,21 @@ use lib.Dec.{eqb, leb, ltb}
 use lib.ListN.{length, getD, length-append}
 use borrow.Author.Tests.{leb-true, ltb-true, ltb-false, eqb-true, ne-eqb}
 use Rattle.finite.specs.Tests.{count, tick}
-use Rattle.finite.specs.Lists.{each}
+use Rattle.finite.specs.Lists.{each, All}
 use Rattle.finite.proofs.Tests.{and-l, and-r, count-mono}
-use Rattle.number.specs.Number.{encodeBy, encode}
+use Rattle.finite.proofs.All.{all-map, all-append}
+use Rattle.number.specs.Number.{encodeBy, encode, Bytes}
 use Rattle.number.proofs.Encoding.{fuel-any}
 use Rattle.model.specs.Limits.{mostEdition, second, mostThreads, mostAddresses, mostEvents, mostDependencies, mostValue, mostName}
 use Rattle.model.specs.Case.{Case, Event, Dependency, noEvent, load, store, mostKind, bare, byAddress, mostClass}
 use Rattle.model.specs.Record.{Pair, dependencyGood, dependencyRank, leastAfter, storeTo}
 use Rattle.model.specs.Written.{eventBytes, dependencyBytes, dependenciesBytes, pairBytes, rowsPairs, orderBytes, recordOf}
 use Rattle.model.specs.Bound.{size, mostEventBytes, mostOrderBytes, mostDependencyBytes, leastLoads, mostLinkBytes, mostBytes}
-use Rattle.laws.proofs.Fits.{All, Bytes, EventFits, DependenciesFit, WriteFits, WritesFit, Fits}
+use Rattle.model.specs.Fits.{EventFits, DependenciesFit, WriteFits, WritesFit, Fits}
+use Rattle.model.proofs.WriteOrders.{WritesFrom, writes-from}
+use Rattle.model.proofs.Faultless.{least-first, least-next}
 use Rattle.laws.proofs.Names.{printable-bytes}
-use Rattle.laws.proofs.AllFrom.{WritesFrom, writes-from}
-use Rattle.laws.proofs.ReadBack.{kinds-most, all-map, Rising, rising-rows, few-pairs}
-use Rattle.laws.proofs.Faultless.{least-first, least-next}
+use Rattle.laws.proofs.ReadBack.{kinds-most, Rising, rising-rows, few-pairs}
 
 -- ---- a number
 
@@ -58,10 +59,6 @@ unfolding encode
 encode-bytes v = bytes-by v v (le-refl v)
 
 -- ---- field by field
-
-pub all-append : {A : Type 0} (P : A → Type 0) (s t : List A) → All P s → All P t → All P (s ++ t)
-all-append P [] t h l = l
-all-append P (a ∷ s) t h l = (h .0, all-append P s t (h .1) l)
 
 -- bytes, at most n of them
 record Few (bs : List ℕ) (n : ℕ) : Type 0 where

@@ -9,7 +9,7 @@ use lib.ListN.{length, take, drop, replicate}
 use lib.Seq.{take-at, drop-at, length-take-le}
 use Rattle.finite.specs.Lists.{table}
 use Rattle.finite.proofs.Tests.{and-left, and-right}
-use Rattle.number.specs.Number.{splice}
+use Rattle.number.specs.Number.{splice, Bytes}
 use Rattle.number.specs.Reader.{Out, stop, next}
 use Rattle.permutation.specs.Permutation.{permutations, fits}
 use Rattle.permutation.proofs.Laws.{fits-identity, fits-below, fits-composite}
@@ -21,10 +21,10 @@ use Rattle.model.specs.Written.{recordOf}
 use Rattle.model.specs.Renumber.{moved, renumber, fitting}
 use Rattle.model.specs.Answers.{Answer, noFinals, refusal, done, answerOf, Stored, room, put, putOut, judgement, judgeOut, underModel, judge, judgeCase, renumberOut, renumberRecord, renumberCase}
 use Rattle.model.specs.Calls.{Call, judging, renumbering, judgingCase, renumberingCase, judged, renumbered, renumberedCase, onCase, stored, given, outcome, latest, following, outcomes, recordAfter, Composed, start, compose, entered, composedAfter, movedAnswer, ruled, promised, promises, Claim}
-use Rattle.laws.proofs.Fits.{Bytes, Fits}
+use Rattle.model.specs.Fits.{Fits}
+use Rattle.model.proofs.Faultless.{handed-on}
 use Rattle.laws.proofs.ReadBack.{read-back}
 use Rattle.laws.proofs.ExactCase.{Readable, readable}
-use Rattle.laws.proofs.Faultless.{handed-on}
 use Rattle.laws.proofs.Renumbered.{verdict-stays, finals-move, moved-table}
 use Rattle.laws.proofs.Composition.{renumber-identity, renumber-composite}
 use Rattle.laws.proofs.Refits.{refits, same-length}

@@ -12,7 +12,7 @@ use Rattle.permutation.specs.Permutation.{permutations, image, inverse, composi
 use Rattle.permutation.proofs.Laws.{image-identity, inverse-identity, composite-image, composite-inverse, inverse-composite, fits-below, fits-image, fits-inverse}
 use Rattle.model.specs.Case.{Case, Event, bare}
 use Rattle.model.specs.Renumber.{moved, relabel, renumber}
-use Rattle.laws.proofs.Fits.{Fits}
+use Rattle.model.specs.Fits.{Fits}
 
 map-twice : {A B C : Type 0} (f : A → B) (g : B → C) (h : A → C) → ((a : A) → g (f a) ≡ h a) → (l : List A) → map g (map f l) ≡ map h l
 map-twice f g h e [] = refl

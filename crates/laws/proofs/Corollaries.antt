@@ -9,6 +9,7 @@ use lib.Dec.{T}
 use lib.ListN.{length, take, drop}
 use Rattle.finite.proofs.Tests.{T-and, T-true}
 use Rattle.number.specs.Reader.{Out, stop, next}
+use Rattle.number.specs.Number.{Bytes}
 use Rattle.permutation.specs.Permutation.{inverse, composite, fits}
 use Rattle.permutation.proofs.Laws.{fits-identity, fits-inverse, fits-composite}
 use Rattle.model.specs.Case.{Case}
@@ -16,7 +17,7 @@ use Rattle.model.specs.Record.{read}
 use Rattle.model.specs.Written.{recordOf}
 use Rattle.model.specs.Renumber.{renumber, fitting}
 use Rattle.model.specs.Answers.{Stored, room, put, putOut, renumberOut, renumberRecord}
-use Rattle.laws.proofs.Fits.{Bytes, Fits}
+use Rattle.model.specs.Fits.{Fits}
 use Rattle.laws.proofs.ReadBack.{read-back}
 use Rattle.laws.proofs.ExactCase.{Readable, readable}
 use Rattle.laws.proofs.Composition.{renumber-identity, renumber-composite, renumber-inverse}

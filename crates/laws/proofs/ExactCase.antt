@@ -11,30 +11,31 @@ use lib.Dec.{leb, lit≤}
 use lib.ListN.{length, take, drop}
 use lib.Seq.{take-at}
 use Rattle.finite.specs.Tests.{count}
-use Rattle.finite.specs.Lists.{each, every}
-use Rattle.number.specs.Number.{encode}
+use Rattle.finite.specs.Lists.{each, every, All}
+use Rattle.number.specs.Number.{encode, Bytes}
 use Rattle.number.specs.Reader.{stop, next, give, _>>=_, turns, another, upTo, below}
+use Rattle.codec.proofs.Exact.{Took, Exact, As, Along, grown, exact-give, exact-bind, exact-last, exact-map, exact-fits, exact-unless, exact-up-to, exact-within, exact-below, exact-under, exact-list, exact-times}
 use Rattle.model.specs.Limits.{leastEdition, mostEdition, second, mostThreads, mostAddresses, mostEvents, mostDependencies, mostValue, mostName}
 use Rattle.model.specs.Case.{Case, Dependency, mostKind, bare, mostClass, printable}
 use Rattle.model.specs.Record.{event, dependency, dependencyGood, dependencyRank, leastAfter, risingDependency, risingDependencies, dependencies, member, storeTo, unlisted, writeOrder, nextWriteOrder, Head, head, Listing, listing, Rest, rest, case, read}
 use Rattle.model.specs.Written.{eventBytes, dependencyBytes, dependenciesBytes, recordOf}
-use Rattle.laws.proofs.Fits.{All, Bytes, EventFits, DependencyFits, DependenciesFit, WriteFits, WritesFit, Fits}
+use Rattle.model.specs.Fits.{EventFits, DependencyFits, DependenciesFit, WriteFits, WritesFit, RowsFit, Fits}
 use Rattle.laws.proofs.ReadBack.{headBytes, listingBytes, restBytes, parted, read-back}
-use Rattle.laws.proofs.Exact.{Took, Refused, Exact, As, Along, grown, exact-give, exact-bind, exact-last, exact-map, exact-fits, exact-unless, exact-up-to, exact-within, exact-below, exact-under, exact-list, exact-times, exact-text}
+use Rattle.laws.proofs.Exact.{Refused, exact-text, told}
 use Rattle.laws.proofs.ExactOrder.{exact-order}
 
 -- ---- an event
 
-exact-event : (edition n m : ℕ) → 0 < n → 0 < m → Exact (event edition n m) (As eventBytes (EventFits edition n m))
+exact-event : (edition n m : ℕ) → 0 < n → 0 < m → Exact Refused (event edition n m) (As eventBytes (EventFits edition n m))
 unfolding event
 exact-event edition n m ln lm =
-    exact-bind (exact-up-to (mostKind edition)) (λ kind hk. exact-bind (exact-below n ln) (λ thread ht. go kind hk thread ht (bare kind) refl))
+    exact-bind (exact-up-to told (mostKind edition)) (λ kind hk. exact-bind (exact-below told n ln) (λ thread ht. go kind hk thread ht (bare kind) refl))
   where
     never : {b : Bool} {G : Type 0} → b ≡ false → b ≡ true → G
     never p q = absurd (true≢false (sym q ∙ p))
 
     go : (kind : ℕ) → kind ≤ mostKind edition → (thread : ℕ) → thread < n → (x : Bool) → bare kind ≡ x
-        → Exact (cond (bare kind) (give (record { kind = kind; thread = thread; address = 0; value = 0 }))
+        → Exact Refused (cond (bare kind) (give (record { kind = kind; thread = thread; address = 0; value = 0 }))
         (below m >>= λ a. upTo mostValue >>= λ v. give (record { kind = kind; thread = thread; address = a; value = v })))
         (λ e bs. As eventBytes (EventFits edition n m) e (encode kind ++ (encode thread ++ bs)))
     go kind hk thread ht true p =
@@ -50,7 +51,7 @@ exact-event edition n m ln lm =
           };
         }))
     go kind hk thread ht false p =
-        rw p (exact-bind (exact-below m lm) (λ a ha. exact-last _ _ (exact-up-to mostValue) (λ v hv. record {
+        rw p (exact-bind (exact-below told m lm) (λ a ha. exact-last _ _ (exact-up-to told mostValue) (λ v hv. record {
           same = unfold eventBytes in rw p;
           fits = record {
             kind = hk;
@@ -64,12 +65,12 @@ exact-event edition n m ln lm =
 
 -- ---- dependencies
 
-exact-dependency : (k : ℕ) → Exact (dependency k) (As dependencyBytes (DependencyFits k))
+exact-dependency : (k : ℕ) → Exact Refused (dependency k) (As dependencyBytes (DependencyFits k))
 unfolding dependency dependencyBytes
 exact-dependency k =
-    exact-bind (exact-up-to mostClass) (λ class hc.
-    exact-bind (exact-under k) (λ from hf.
-    exact-last _ _ (exact-under k) (λ to ht. record { same = refl; fits = record { class = hc; from = hf; to = ht } })))
+    exact-bind (exact-up-to told mostClass) (λ class hc.
+    exact-bind (exact-under told k) (λ from hf.
+    exact-last _ _ (exact-under told k) (λ to ht. record { same = refl; fits = record { class = hc; from = hf; to = ht } })))
 
 -- one that may come next
 abbrev Linked : (k : ℕ) (good : Dependency → Bool) → List Dependency → Dependency → Type 0
@@ -81,12 +82,12 @@ along-links k good before [] h = tt
 along-links k good before (d ∷ ds) h = (h .0 .0, h .0 .1, along-links k good (before ++ (d ∷ [])) ds (h .1))
 
 exact-links : (k : ℕ) (good : Dependency → Bool) (i : ℕ)
-    → Exact (risingDependencies k good i) (As (each dependencyBytes) (λ ds. (length ds ≡ i) × DependenciesFit k good [] ds))
+    → Exact Refused (risingDependencies k good i) (As (each dependencyBytes) (λ ds. (length ds ≡ i) × DependenciesFit k good [] ds))
 unfolding risingDependency risingDependencies
 exact-links k good i =
     exact-fits
     (exact-list (λ before. risingDependency k (leastAfter k before) good) dependencyBytes (Linked k good)
-    (λ before. exact-unless 4 (λ d. leb (leastAfter k before) (dependencyRank k d) && good d) (lit≤ tt) (lit≤ tt) (exact-dependency k)) i)
+    (λ before. exact-unless told 4 (λ d. leb (leastAfter k before) (dependencyRank k d) && good d) (lit≤ tt) (lit≤ tt) (exact-dependency k)) i)
     (λ ds h. (h .0, along-links k good [] ds (h .1)))
 
 pub record LinksFit (edition k : ℕ) (good : Dependency → Bool) (ds : List Dependency) : Type 0 where
@@ -95,15 +96,15 @@ pub record LinksFit (edition k : ℕ) (good : Dependency → Bool) (ds : List De
   pub all : DependenciesFit k good [] ds
 
 exact-dependencies : (edition k : ℕ) (good : Dependency → Bool)
-    → Exact (dependencies edition k good) (As (dependenciesBytes edition) (LinksFit edition k good))
+    → Exact Refused (dependencies edition k good) (As (dependenciesBytes edition) (LinksFit edition k good))
 unfolding dependencies
 exact-dependencies edition k good = go (second edition) refl
   where
     go : (x : Bool) → second edition ≡ x
-        → Exact (cond x (upTo mostDependencies >>= risingDependencies k good) (give []))
+        → Exact Refused (cond x (upTo mostDependencies >>= risingDependencies k good) (give []))
         (As (dependenciesBytes edition) (LinksFit edition k good))
     go true p =
-        exact-bind (exact-up-to mostDependencies) (λ i hi. exact-map (exact-links k good i) (λ ds bs h. record {
+        exact-bind (exact-up-to told mostDependencies) (λ i hi. exact-map (exact-links k good i) (λ ds bs h. record {
           same = unfold dependenciesBytes in rw (p, h .same, h .fits .0);
           fits = record { none = λ q. absurd (true≢false (sym p ∙ q)); most = rw (h .fits .0) hi; all = h .fits .1 };
         }))
@@ -118,15 +119,15 @@ module _ (k : ℕ) (mine : ℕ → Bool) where
   along-write before (e ∷ w) h = (h .0 .0, h .0 .1, along-write (before ++ (e ∷ [])) w (h .1))
 
   exact-listed : 0 < k → (i : ℕ)
-      → Exact (turns i (λ before. another (unlisted k mine (λ e. member e before)) before) []) (As (each encode) (λ w. (length w ≡ i) × WriteFits k mine [] w))
+      → Exact Refused (turns i (λ before. another (unlisted k mine (λ e. member e before)) before) []) (As (each encode) (λ w. (length w ≡ i) × WriteFits k mine [] w))
   unfolding unlisted
   exact-listed l i =
       exact-fits
-      (exact-list (λ before. unlisted k mine (λ e. member e before)) encode _ (λ before. exact-unless 4 (λ e. mine e && not (member e before)) (lit≤ tt) (lit≤ tt) (exact-below k l)) i)
+      (exact-list (λ before. unlisted k mine (λ e. member e before)) encode _ (λ before. exact-unless told 4 (λ e. mine e && not (member e before)) (lit≤ tt) (lit≤ tt) (exact-below told k l)) i)
       (λ w h. (h .0, along-write [] w (h .1)))
 
 -- without events no store is listed
-exact-write : (k : ℕ) (mine : ℕ → Bool) → Exact (writeOrder k mine) (As (each encode) (λ w. (length w ≡ count k mine) × WriteFits k mine [] w))
+exact-write : (k : ℕ) (mine : ℕ → Bool) → Exact Refused (writeOrder k mine) (As (each encode) (λ w. (length w ≡ count k mine) × WriteFits k mine [] w))
 unfolding writeOrder
 exact-write zero mine = unfold turns each count in exact-give _ [] (record { same = refl; fits = (refl, tt) })
 exact-write (suc k) mine = exact-listed (suc k) mine (omega arith) (count (suc k) mine)
@@ -138,7 +139,7 @@ module _ (k : ℕ) (mine : ℕ → ℕ → Bool) where
   along-writes before [] h = tt
   along-writes before (w ∷ ws) h = (h .0 .0, h .0 .1, along-writes (before ++ (w ∷ [])) ws (h .1))
 
-  exact-writes : (m : ℕ) → Exact (turns m (nextWriteOrder k mine) []) (As (each (each encode)) (λ ws. (length ws ≡ m) × WritesFit k mine [] ws))
+  exact-writes : (m : ℕ) → Exact Refused (turns m (nextWriteOrder k mine) []) (As (each (each encode)) (λ ws. (length ws ≡ m) × WritesFit k mine [] ws))
   exact-writes m =
       exact-fits (exact-list (λ before. writeOrder k (mine (length before))) (each encode) _ (λ before. exact-write k (mine (length before))) m)
       (λ ws h. (h .0, along-writes [] ws (h .1)))
@@ -164,42 +165,42 @@ pub record RestFits (n m k : ℕ) (mine : ℕ → ℕ → Bool) (t : Rest) : Typ
   pub as-many-writes : length (t .writes) ≡ m
   pub writes : WritesFit k mine [] (t .writes)
   pub as-many-orders : length (t .orders) ≡ n
-  pub orders : All (λ rows. (length rows ≡ k) × All (λ r. r < 2 ^ k) rows) (t .orders)
+  pub orders : All (RowsFit k) (t .orders)
   pub name : length (t .name) ≤ mostName
   pub name-printable : every printable (t .name) ≡ true
 
-pub exact-head : Exact head (As headBytes HeadFits)
+pub exact-head : Exact Refused head (As headBytes HeadFits)
 unfolding head
 exact-head =
-    exact-bind (exact-within leastEdition mostEdition) (λ e he.
-    exact-bind (exact-within 1 mostThreads) (λ n hn.
-    exact-last _ _ (exact-within 1 mostAddresses) (λ m hm. record {
+    exact-bind (exact-within told leastEdition mostEdition) (λ e he.
+    exact-bind (exact-within told 1 mostThreads) (λ n hn.
+    exact-last _ _ (exact-within told 1 mostAddresses) (λ m hm. record {
       same = refl;
       fits = record { edition-least = he .0; edition-most = he .1; n-least = hn .0; n-most = hn .1; m-least = hm .0; m-most = hm .1 };
     })))
 
-pub exact-listing : (edition n m : ℕ) → 0 < n → 0 < m → Exact (listing edition n m) (As listingBytes (ListingFits edition n m))
+pub exact-listing : (edition n m : ℕ) → 0 < n → 0 < m → Exact Refused (listing edition n m) (As listingBytes (ListingFits edition n m))
 unfolding listing
 exact-listing edition n m ln lm =
-    exact-bind (exact-times (exact-up-to mostValue) m) (λ initials hi.
-    exact-bind (exact-up-to mostEvents) (λ k hk.
+    exact-bind (exact-times (exact-up-to told mostValue) m) (λ initials hi.
+    exact-bind (exact-up-to told mostEvents) (λ k hk.
     exact-last _ _ (exact-times (exact-event edition n m ln lm) k) (λ es he. record {
       same = refl;
       fits = record { as-many-initials = hi .0; initials = hi .1; k-most = hk; as-many-events = he .0; events = he .1 };
     })))
 
-pub exact-rest : (n m k : ℕ) (mine : ℕ → ℕ → Bool) → Exact (rest n m k mine) (As (restBytes k) (RestFits n m k mine))
+pub exact-rest : (n m k : ℕ) (mine : ℕ → ℕ → Bool) → Exact Refused (rest n m k mine) (As (restBytes k) (RestFits n m k mine))
 unfolding rest
 exact-rest n m k mine =
     exact-bind (exact-writes k mine m) (λ ws hw.
     exact-bind (exact-times (exact-order k) n) (λ os ho.
-    exact-bind (exact-up-to mostName) (λ i hi.
+    exact-bind (exact-up-to told mostName) (λ i hi.
     exact-last _ _ (exact-text i) (λ name h. record {
       same = rw (h .0);
       fits = record { as-many-writes = hw .0; writes = hw .1; as-many-orders = ho .0; orders = ho .1; name = rw (h .0) hi; name-printable = h .1 };
     }))))
 
-pub exact-case : Exact case (As recordOf Fits)
+pub exact-case : Exact Refused case (As recordOf Fits)
 unfolding case
 exact-case =
     exact-bind exact-head (λ h H.

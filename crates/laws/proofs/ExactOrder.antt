@@ -13,17 +13,18 @@ use lib.Bits.{bitOr, or-lt}
 use lib.ListN.{length, getD, set, replicate, length-set, length-replicate}
 use lib.Pow.{pow-pos, pow-mono, pow-lt}
 use borrow.Author.Tests.{leb-true, ne-eqb, eq-eqb}
-use Rattle.finite.specs.Lists.{each}
+use Rattle.finite.specs.Lists.{each, All}
 use Rattle.finite.proofs.Tests.{or-r, or-false}
 use Rattle.bits.specs.Bit.{bit}
 use Rattle.bits.proofs.Bits.{bit-with}
 use Rattle.number.specs.Number.{encode}
 use Rattle.number.specs.Reader.{turns, give, _>>=_}
+use Rattle.codec.proofs.Exact.{Exact, As, exact-give, exact-then, exact-bind, exact-last, exact-unless, exact-up-to, exact-below, Along, Turned, exact-turns}
 use Rattle.model.specs.Record.{Pair, pair, rank, risingPair, Rows, noPairs, withPair, nextPair, order}
 use Rattle.model.specs.Written.{pairBytes, rowPairs, rowsPairs, orderBytes}
-use Rattle.laws.proofs.Fits.{All}
+use Rattle.model.specs.Fits.{RowsFit}
 use Rattle.laws.proofs.ReadBack.{Rising, putRows, folded-rows}
-use Rattle.laws.proofs.Exact.{Exact, As, exact-give, exact-then, exact-bind, exact-last, exact-unless, exact-up-to, exact-below, Along, Turned, exact-turns}
+use Rattle.laws.proofs.Exact.{Refused, told}
 
 -- ---- a row with one pair more
 
@@ -162,25 +163,22 @@ put-back k a b rows (p ∷ ps) hb e h r =
 
 -- ---- the readers
 
-pub exact-pair : (k : ℕ) → 0 < k → Exact (pair k) (As pairBytes (λ p. (p .a < k) × (p .b < k)))
+pub exact-pair : (k : ℕ) → 0 < k → Exact Refused (pair k) (As pairBytes (λ p. (p .a < k) × (p .b < k)))
 unfolding pair pairBytes
-exact-pair k l = exact-bind (exact-below k l) (λ a h. exact-last _ _ (exact-below k l) (λ b h′. record { same = refl; fits = (h, h′) }))
+exact-pair k l = exact-bind (exact-below told k l) (λ a h. exact-last _ _ (exact-below told k l) (λ b h′. record { same = refl; fits = (h, h′) }))
 
 -- a pair that may come next
 abbrev Next : (k : ℕ) → Rows → Pair → Type 0
 Next k o p = ((p .a < k) × (p .b < k)) × (leb (o .least) (rank k p) ≡ true)
 
-exact-pairs : (k : ℕ) → 0 < k → (i : ℕ) (o : Rows) → Exact (turns i (nextPair k) o) (Turned (withPair k) pairBytes (Next k) i o)
+exact-pairs : (k : ℕ) → 0 < k → (i : ℕ) (o : Rows) → Exact Refused (turns i (nextPair k) o) (Turned (withPair k) pairBytes (Next k) i o)
 unfolding nextPair risingPair
 exact-pairs k l i o =
-    exact-turns (λ o. risingPair k (o .least)) (withPair k) pairBytes (Next k) (λ o. exact-unless 4 _ (lit≤ tt) (lit≤ tt) (exact-pair k l)) i o
+    exact-turns (λ o. risingPair k (o .least)) (withPair k) pairBytes (Next k) (λ o. exact-unless told 4 _ (lit≤ tt) (lit≤ tt) (exact-pair k l)) i o
 
 along-rising : (k : ℕ) (o : Rows) (ps : List Pair) → Along (withPair k) (Next k) o ps → Rising k (o .least) ps
 along-rising k o [] h = tt
 along-rising k o (p ∷ ps) h = (h .0 .0 .0, h .0 .0 .1, leb-true (o .least) (rank k p) (h .0 .1), along-rising k (withPair k o p) ps (h .1))
-
-abbrev RowsFit : (k : ℕ) → List ℕ → Type 0
-RowsFit k rows = (length rows ≡ k) × All (λ r. r < 2 ^ k) rows
 
 order-made : (k i : ℕ) (o : Rows) (bs : List ℕ) → Turned (withPair k) pairBytes (Next k) i (noPairs k) o bs
     → As (orderBytes k) (RowsFit k) (o .rows) (encode i ++ bs)
@@ -193,16 +191,16 @@ order-made k i o bs T =
     record { same = rw (back, T .count, T .bytes); fits = rw made (B .size, B .small) }
 
 -- without events there are no pairs
-exact-turned : (k i : ℕ) → i ≤ k * k → Exact (turns i (nextPair k) (noPairs k)) (Turned (withPair k) pairBytes (Next k) i (noPairs k))
+exact-turned : (k i : ℕ) → i ≤ k * k → Exact Refused (turns i (nextPair k) (noPairs k)) (Turned (withPair k) pairBytes (Next k) i (noPairs k))
 exact-turned zero zero l = unfold turns each in exact-give _ (noPairs 0) (record { xs = []; count = refl; made = refl; fits = tt; bytes = refl })
 exact-turned zero (suc i) l = absurd (omega arith)
 exact-turned (suc k) i l = exact-pairs (suc k) (omega arith) i (noPairs (suc k))
 
-pub exact-order : (k : ℕ) → Exact (order k) (As (orderBytes k) (λ rows. (length rows ≡ k) × All (λ r. r < 2 ^ k) rows))
+pub exact-order : (k : ℕ) → Exact Refused (order k) (As (orderBytes k) (RowsFit k))
 unfolding order
 exact-order k =
-    exact-bind (exact-up-to (k * k)) (λ i h. behind i (exact-turned k i h))
+    exact-bind (exact-up-to told (k * k)) (λ i h. behind i (exact-turned k i h))
   where
-    behind : (i : ℕ) → Exact (turns i (nextPair k) (noPairs k)) (Turned (withPair k) pairBytes (Next k) i (noPairs k))
-        → Exact (turns i (nextPair k) (noPairs k) >>= λ o. give (o .rows)) (λ rows bs. As (orderBytes k) (RowsFit k) rows (encode i ++ bs))
+    behind : (i : ℕ) → Exact Refused (turns i (nextPair k) (noPairs k)) (Turned (withPair k) pairBytes (Next k) i (noPairs k))
+        → Exact Refused (turns i (nextPair k) (noPairs k) >>= λ o. give (o .rows)) (λ rows bs. As (orderBytes k) (RowsFit k) rows (encode i ++ bs))
     behind i p = exact-then p (λ o bs T. exact-give _ (o .rows) (rw (append-nil bs) (order-made k i o bs T)))

@@ -11,8 +11,9 @@ use lib.ListN.{length, drop}
 use borrow.Author.Tests.{eqb-false}
 use Rattle.finite.proofs.Tests.{and-l, and-r, true-T}
 use Rattle.permutation.specs.Permutation.{fits}
-use Rattle.number.specs.Number.{encode}
+use Rattle.number.specs.Number.{encode, Bytes}
 use Rattle.number.specs.Reader.{Out, stop, next, upTo}
+use Rattle.codec.proofs.ReadsAs.{reads-up-to}
 use Rattle.model.specs.Limits.{mostEdition, second}
 use Rattle.model.specs.Case.{Case}
 use Rattle.model.specs.Rules.{Model}
@@ -20,8 +21,7 @@ use Rattle.model.specs.Record.{read}
 use Rattle.model.specs.Written.{recordOf}
 use Rattle.model.specs.Renumber.{renumber, fitting}
 use Rattle.model.specs.Answers.{Answer, refusal, Stored, put, putOut, judgement, judgeOut, underModel, judge, renumberOut, renumberRecord}
-use Rattle.laws.proofs.Fits.{Bytes, Fits}
-use Rattle.laws.proofs.ReadBack.{reads-up-to}
+use Rattle.model.specs.Fits.{Fits}
 use Rattle.laws.proofs.ExactCase.{Readable, readable}
 use Rattle.laws.proofs.Refits.{refits}
 use Rattle.laws.proofs.FirstEdition.{firstVerdict, firstRead, firstRecordOf, firstRenumber, judges-as-before, writes-as-before, renumbers-as-before, record-as-before}

@@ -12,8 +12,9 @@ use lib.Dec.{eqb, leb, ltb, lit≤}
 use lib.ListN.{length, getD, drop}
 use borrow.Author.Tests.{ne-eqb, lt-ltb, ltb-false, leb-true}
 use Rattle.finite.specs.Tests.{all, some, _⇒_}
-use Rattle.finite.specs.Lists.{each, every}
+use Rattle.finite.specs.Lists.{each, every, All}
 use Rattle.finite.proofs.Tests.{and-left, or-false, and-true, T-true, all-same, imp-cong}
+use Rattle.finite.proofs.All.{all-map}
 use Rattle.permutation.specs.Permutation.{image}
 use Rattle.number.specs.Number.{Raw, got, short, wrong, groups, readGroups, finish, readNumber, encode}
 use Rattle.number.specs.Reader.{Out, stop, next, Reader, give, _>>=_, onward, unless, times, upTo, within, below, numberOut}
@@ -26,8 +27,7 @@ use Rattle.model.specs.Record.{event, dependencies, storeTo, Head, head, Listin
 use Rattle.model.specs.Written.{eventBytes, dependenciesBytes, orderBytes, recordOf}
 use Rattle.model.specs.Renumber.{moved, relabel, renumber}
 use Rattle.model.specs.Fault.{eventGood, firstFault, dependencyFault, writesFault, nameFault, fault}
-use Rattle.laws.proofs.Fits.{All, Fits}
-use Rattle.laws.proofs.ReadBack.{all-map}
+use Rattle.model.specs.Fits.{Fits}
 
 -- ---- what was: the limits
 

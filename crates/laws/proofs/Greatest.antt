@@ -7,8 +7,9 @@ use mathlib.Core.List.{List, [], _∷_, _++_}
 use lib.Dec.{ltb, lit<}
 use lib.ListN.{length}
 use Rattle.finite.specs.Tests.{count}
-use Rattle.finite.specs.Lists.{table, each, every}
+use Rattle.finite.specs.Lists.{table, each, every, All, AllFrom}
 use Rattle.finite.proofs.Lists.{table-length}
+use Rattle.finite.proofs.All.{all-table}
 use Rattle.number.specs.Number.{encodeBy, encode}
 use Rattle.number.specs.Reader.{next}
 use Rattle.bits.specs.Bit.{bit}
@@ -18,9 +19,8 @@ use Rattle.model.specs.Record.{dependencyGood, member, storeTo, read}
 use Rattle.model.specs.Written.{eventBytes, dependencyBytes, dependenciesBytes, pairBytes, rowPairs, rowsPairs, orderBytes, recordOf}
 use Rattle.model.specs.Fault.{eventGood, dependencyFault, writeFault, writesFault, nameFault, fault}
 use Rattle.model.specs.Bound.{mostEventBytes, mostOrderBytes, mostDependencyBytes, leastLoads, mostLinkBytes, mostBytes}
-use Rattle.laws.proofs.Fits.{All}
-use Rattle.laws.proofs.AllFrom.{AllFrom, all-table}
-use Rattle.laws.proofs.Faultless.{Shaped, round-trip}
+use Rattle.model.specs.Fits.{Shaped}
+use Rattle.laws.proofs.ReadBack.{round-trip}
 
 -- in edition 2, as many loads as begin all dependencies
 abbrev loads : (edition : ℕ) → ℕ

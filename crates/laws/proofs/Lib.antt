@@ -1,11 +1,8 @@
-pub mod Fits
 pub mod Names
-pub mod AllFrom
 pub mod ReadBack
 pub mod Exact
 pub mod ExactOrder
 pub mod ExactCase
-pub mod Faultless
 pub mod Bound
 pub mod Greatest
 pub mod Meaning

@@ -4,17 +4,16 @@ use Prim.Native.Nat.{ℕ, zero, suc, _-_}
 use native.Mathlib.Nat.{add-sub-cancel}
 use mathlib.Core.Path.{_≡_, refl, ap, _∙_}
 use mathlib.Core.Bool.{true}
-use mathlib.Core.List.{List, [], _++_, append-assoc}
+use mathlib.Core.List.{List, _++_, append-assoc}
 use lib.ListN.{length, drop, replicate, length-append}
 use lib.Seq.{take-append-seam, drop-append-seam}
 use Rattle.finite.specs.Lists.{each, every}
-use Rattle.number.specs.Number.{encode}
+use Rattle.number.specs.Number.{encode, Bytes}
 use Rattle.number.specs.Reader.{Out, stop, next}
 use Rattle.model.specs.Case.{Case, printable}
 use Rattle.model.specs.Record.{read}
 use Rattle.model.specs.Written.{dependenciesBytes, orderBytes, recordOf}
 use Rattle.model.specs.Answers.{name, judgedName, nameUnder, renumberRecord, renumberedName}
-use Rattle.laws.proofs.Fits.{Bytes}
 use Rattle.laws.proofs.ReadBack.{headBytes, headOf, listingBytes, listingOf}
 use Rattle.laws.proofs.ExactCase.{Readable, readable}
 

@@ -11,10 +11,10 @@ use lib.ListN.{length, getD, take}
 use borrow.Author.Tests.{leb-true}
 use Rattle.finite.specs.Lists.{every}
 use Rattle.finite.proofs.Tests.{and-l, and-r, and-i}
+use Rattle.number.specs.Number.{Bytes}
 use Rattle.model.specs.Limits.{leastPrintable, mostPrintable}
 use Rattle.model.specs.Case.{printable}
 use Rattle.model.specs.Record.{printableFront}
-use Rattle.laws.proofs.Fits.{Bytes}
 
 pub printable-bytes : (l : List ℕ) → every printable l ≡ true → Bytes l
 unfolding every printable

@@ -1,83 +1,33 @@
 -- What is written is read back.
 -- Assumes nothing.
-use Prim.Native.Nat.{ℕ, zero, suc, _+_, _-_, _*_, _/_, _%_, _^_, _≤_, _<_}
-use native.Mathlib.Nat.{add-assoc, add-zero, zero-add, add-suc, suc-add, suc-mul, zero-mul, mul-le-mul, mul-le-mul-right, mod-one, mod-lt, mod-eq-of-lt, one-mul}
+use Prim.Native.Nat.{ℕ, zero, suc, _+_, _*_, _/_, _%_, _^_, _≤_, _<_}
+use native.Mathlib.Nat.{add-zero, zero-add, add-suc, suc-add, suc-mul, zero-mul, mul-le-mul, mul-le-mul-right, mod-one, mod-lt, mod-eq-of-lt, one-mul}
 use native.Mathlib.Numerals.{one-add, add-one}
 use native.Mathlib.Omega.{arith}
 use mathlib.Core.Path.{_≡_, refl, sym, ap, _∙_, subst}
 use mathlib.Core.Bool.{Bool, true, false, not, cond, _&&_}
-use mathlib.Core.List.{List, [], _∷_, _++_, append-assoc, append-nil}
+use mathlib.Core.List.{List, [], _∷_, _++_, append-assoc}
 use lib.Dec.{lit<, lit≤}
 use lib.Bits.{bitOr, or-shifted-r}
 use lib.ListN.{length, getD, set, drop, length-append, length-drop, replicate}
 use lib.Seq.{take-at, set-append-seam, getD-append-seam}
 use lib.Pow.{mod-pow-add, pow-pos}
-use borrow.Author.Tests.{le-leb, lt-ltb, eqb-true, eqb-false}
+use borrow.Author.Tests.{le-leb, eqb-true, eqb-false}
 use Rattle.finite.specs.Tests.{count}
-use Rattle.finite.specs.Lists.{each, every}
+use Rattle.finite.specs.Lists.{each, every, All}
+use Rattle.finite.proofs.All.{all-map}
 use Rattle.number.specs.Number.{encode, groups}
-use Rattle.number.specs.Reader.{next, Reader, give, _>>=_, unless, turns, another, times, upTo, within, below, under, numberOut}
-use Rattle.number.proofs.Laws.{read-at, past}
+use Rattle.number.specs.Reader.{next, give, _>>=_, turns, another, times, upTo, below}
 use Rattle.bits.specs.Bit.{bit}
+use Rattle.codec.proofs.ReadsAs.{ReadsAs, reads-give, reads-bind, reads-last, reads-unless, reads-up-to, reads-within, reads-below, reads-under, Steps, reads-turns, reads-times}
+use Rattle.codec.proofs.Exact.{folded}
 use Rattle.model.specs.Limits.{leastEdition, mostEdition, second, mostThreads, mostAddresses, mostEvents, mostDependencies, mostValue, mostName}
 use Rattle.model.specs.Case.{Case, Event, Dependency, sync, lwsync, mostKind, bare, mostClass, printable}
 use Rattle.model.specs.Record.{event, dependency, dependencyGood, leastAfter, risingDependency, risingDependencies, dependencies, member, storeTo, unlisted, writeOrder, nextWriteOrder, Pair, Rows, pair, rank, risingPair, withPair, nextPair, noPairs, order, bytes, printed, text, Head, head, Listing, listing, Rest, rest, case, read}
 use Rattle.model.specs.Written.{eventBytes, dependencyBytes, dependenciesBytes, pairBytes, rowPairs, rowsPairs, orderBytes, recordOf}
-use Rattle.laws.proofs.Fits.{All, EventFits, DependencyFits, DependenciesFit, WriteFits, WritesFit, Fits}
-
--- r reads the bytes bs as a, wherever they stand
-pub record ReadsAs {A : Type 0} (r : Reader A) (bs : List ℕ) (a : A) : Type 0 where
-  pub run : (s : List ℕ) (at : ℕ) (t : List ℕ) → at ≤ length s → drop at s ≡ bs ++ t → r s at ≡ next a (at + length bs)
-
-pub reads-give : {A : Type 0} (a : A) → ReadsAs (give a) [] a
-reads-give a = record { run = λ s at t b h. rw (add-zero at) }
-
-pub reads-bind : {A B : Type 0} {r : Reader A} (f : A → Reader B) {bs bs′ : List ℕ} {a : A} {b : B}
-    → ReadsAs r bs a → ReadsAs (f a) bs′ b → ReadsAs (r >>= f) (bs ++ bs′) b
-reads-bind f {bs} {bs′} p q = record {
-  run = λ s at t b h.
-      let h′ : drop at s ≡ bs ++ (bs′ ++ t) = h ∙ append-assoc bs bs′ t in
-      let b′ : at + length bs ≤ length s = omega (arith, simp (length-drop, length-append) at (ap length h′)) in
-      simp (p .run s at (bs′ ++ t) b h′, q .run s (at + length bs) t b′ (past s bs (bs′ ++ t) at h′), length-append, add-assoc);
-}
-
--- the last of a do block
-pub reads-last : {A B : Type 0} {r : Reader A} (f : A → B) {bs : List ℕ} {a : A} → ReadsAs r bs a → ReadsAs (r >>= λ x. give (f x)) bs (f a)
-reads-last f p = record { run = λ s at t b h. simp (p .run s at t b h) }
-
-pub reads-unless : {A : Type 0} (x : ℕ) (test : A → Bool) {r : Reader A} {bs : List ℕ} {a : A} → ReadsAs r bs a → test a ≡ true → ReadsAs (unless x test r) bs a
-unfolding unless
-reads-unless x test p e = record { run = λ s at t b h. simp (p .run s at t b h, e) }
-
-pub reads-up-to : (hi v : ℕ) → v ≤ hi → hi < 128 ^ groups → ReadsAs (upTo hi) (encode v) v
-unfolding upTo
-reads-up-to hi v l f = record { run = λ s at t b h. ap numberOut (read-at s t at hi v (omega arith) l h) }
-
-pub reads-within : (lo hi v : ℕ) → lo ≤ v → v ≤ hi → hi < 128 ^ groups → ReadsAs (within lo hi) (encode v) v
-unfolding within
-reads-within lo hi v l h f = reads-unless 3 _ (reads-up-to hi v h f) (le-leb lo v l)
-
-pub reads-below : (b v : ℕ) → v < b → b ≤ 128 ^ groups → ReadsAs (below b) (encode v) v
-unfolding below
-reads-below b v l f = reads-up-to (b - 1) v (omega arith) (omega arith)
-
-pub reads-under : (b v : ℕ) → v < b → b < 128 ^ groups → ReadsAs (under b) (encode v) v
-unfolding under
-reads-under b v l f = reads-unless 3 _ (reads-up-to b v (omega arith) f) (lt-ltb v b l)
-
--- each of xs is read where it stands, by the reader that goes by those before it
-abbrev pub Steps : {A : Type 0} → (List A → Reader A) → (A → List ℕ) → List A → List A → Type 0
-Steps r enc before [] = Unit {0}
-Steps r enc before (x ∷ xs) = ReadsAs (r before) (enc x) x × Steps r enc (before ++ (x ∷ [])) xs
-
-pub reads-turns : {A : Type 0} (r : List A → Reader A) (enc : A → List ℕ) (before xs : List A) → Steps r enc before xs
-    → ReadsAs (turns (length xs) (λ as′. another (r as′) as′) before) (each enc xs) (before ++ xs)
-unfolding turns each
-reads-turns r enc before [] h = rw (append-nil before) (reads-give before)
-reads-turns r enc before (x ∷ xs) h =
-    let rest : ReadsAs (turns (length xs) (λ as′. another (r as′) as′) (before ++ (x ∷ []))) (each enc xs) (before ++ (x ∷ xs)) =
-    rw (append-assoc before (x ∷ []) xs) at (reads-turns r enc (before ++ (x ∷ [])) xs (h .1)) in
-    reads-bind _ (reads-last _ (h .0)) rest
+use Rattle.model.specs.Fault.{fault}
+use Rattle.model.specs.Fits.{EventFits, DependencyFits, DependenciesFit, WriteFits, WritesFit, Fits, Shaped}
+use Rattle.model.proofs.Faultless.{fits-of}
 
 -- no edition has a greater kind
 pub kinds-most : (edition : ℕ) → mostKind edition ≤ lwsync
@@ -130,11 +80,6 @@ reads-dependencies edition k good ds none most h f = go (second edition) refl
         reads-bind _ (reads-up-to mostDependencies (length ds) most (lit< tt))
         (reads-turns (λ b. risingDependency k (leastAfter k b) good) dependencyBytes [] ds (dependency-steps k good [] ds h f))
     go false p = rw (none p) (reads-give [])
-
--- from s on, with one of xs after the other
-abbrev pub folded : {S A : Type 0} → (S → A → S) → S → List A → S
-folded g s [] = s
-folded g s (x ∷ xs) = folded g (g s x) xs
 
 abbrev pub Rising : (k least : ℕ) → List Pair → Type 0
 Rising k least [] = Unit {0}
@@ -251,14 +196,6 @@ reads-order k rows e h f f′ =
     reads-bind _ (reads-up-to (k * k) (length ps) few f)
     (subst (λ (x : List ℕ). ReadsAs (turns (length ps) (nextPair k) (noPairs k) >>= λ o. give (o .rows)) (each pairBytes ps) x) all (reads-last (λ o. o .rows) (reads-pairs k (noPairs k) ps up f′)))
 
-all-steps : {A : Type 0} (r : Reader A) (enc : A → List ℕ) (before xs : List A) → All (λ x. ReadsAs r (enc x) x) xs → Steps (λ _. r) enc before xs
-all-steps r enc before [] h = tt
-all-steps r enc before (x ∷ xs) h = (h .0, all-steps r enc (before ++ (x ∷ [])) xs (h .1))
-
-pub reads-times : {A : Type 0} (r : Reader A) (enc : A → List ℕ) (xs : List A) → All (λ x. ReadsAs r (enc x) x) xs → ReadsAs (times (length xs) r) (each enc xs) xs
-unfolding times
-reads-times r enc xs h = reads-turns (λ _. r) enc [] xs (all-steps r enc [] xs h)
-
 write-steps : (k : ℕ) (mine : ℕ → Bool) (before w : List ℕ) → WriteFits k mine before w → k ≤ 128 ^ groups → Steps (λ b. unlisted k mine (λ e. member e b)) encode before w
 write-steps k mine before [] h f = tt
 write-steps k mine before (e ∷ w) h f = (reads-store k mine (λ e. member e before) e (h .0) (h .1) f, write-steps k mine (before ++ (e ∷ [])) w (h .2) f)
@@ -272,10 +209,6 @@ writes-steps : (k : ℕ) (mine : ℕ → ℕ → Bool) (before ws : List (List �
 writes-steps k mine before [] h f = tt
 writes-steps k mine before (w ∷ ws) h f =
     (reads-write-order k (mine (length before)) w (h .0) (h .1) f, writes-steps k mine (before ++ (w ∷ [])) ws (h .2) f)
-
-pub all-map : {A : Type 0} (P Q : A → Type 0) → ((a : A) → P a → Q a) → (l : List A) → All P l → All Q l
-all-map P Q f [] h = tt
-all-map P Q f (a ∷ l) h = (f a (h .0), all-map P Q f l (h .1))
 
 -- the bytes of the parts of a record
 abbrev pub headBytes : Head → List ℕ
@@ -365,3 +298,7 @@ module _ (c : Case) (F : Fits c) where
   pub read-back : (t : List ℕ) → read (recordOf c ++ t) ≡ next c (length (recordOf c))
   unfolding read
   read-back t = reads-case .run (recordOf c ++ t) 0 t (omega arith) refl ∙ rw (zero-add (length (recordOf c)))
+
+-- what a writer makes of a case without fault is read back as the case
+pub round-trip : (c : Case) → Shaped c → fault c ≡ 0 → (t : List ℕ) → read (recordOf c ++ t) ≡ next c (length (recordOf c))
+round-trip c S e t = read-back c (fits-of c S e) t

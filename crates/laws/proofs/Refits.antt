@@ -1,28 +1,30 @@
 -- A case that keeps the limits keeps them with other labels, and its record keeps its length.
 -- Assumes nothing.
-use Prim.Native.Nat.{ℕ, zero, suc, _+_, _≤_, _<_}
-use native.Mathlib.Nat.{add-zero, zero-add, add-suc, suc-add}
+use Prim.Native.Nat.{ℕ, _≤_, _<_}
+use native.Mathlib.Nat.{zero-add}
 use native.Mathlib.Omega.{arith}
-use mathlib.Core.Path.{_≡_, refl, sym, ap, ap₂, _∙_, subst, fun-ext}
+use mathlib.Core.Path.{_≡_, refl, sym, ap, _∙_, subst, fun-ext}
 use mathlib.Core.Bool.{Bool, true, false, cond, _&&_}
 use mathlib.Core.List.{List, [], _∷_, _++_, map}
 use lib.Dec.{T, eqb}
-use lib.ListN.{length, getD, length-append, length-map}
+use lib.ListN.{length, getD, length-map}
 use borrow.Author.Tests.{eqb-true}
 use Rattle.finite.specs.Tests.{count}
-use Rattle.finite.specs.Lists.{table, each}
+use Rattle.finite.specs.Lists.{table, each, All}
 use Rattle.finite.proofs.Lists.{table-length, as-table}
+use Rattle.finite.proofs.All.{all-at, all-table, from-at, from-table, all-mapped}
 use Rattle.number.specs.Number.{encode}
 use Rattle.number.proofs.Encoding.{encode-low}
 use Rattle.permutation.specs.Permutation.{labels, image, inverse, fits}
 use Rattle.permutation.proofs.Laws.{image-inverse, image-eqb, fits-below, fits-image, fits-inverse}
-use Rattle.permutation.proofs.Sums.{total, total-image}
+use Rattle.permutation.proofs.Sums.{total-image}
+use Rattle.codec.proofs.AsLong.{AsLong, still, _then_, table-long}
 use Rattle.model.specs.Case.{Case, Event, noEvent, store, bare}
 use Rattle.model.specs.Record.{dependencyGood, storeTo}
 use Rattle.model.specs.Written.{eventBytes, dependenciesBytes, orderBytes, recordOf}
 use Rattle.model.specs.Renumber.{moved, relabel, renumber}
-use Rattle.laws.proofs.Fits.{All, EventFits, WriteFits, WritesFit, Fits}
-use Rattle.laws.proofs.AllFrom.{all-at, all-table, from-at, from-table, writes-from, from-writes}
+use Rattle.model.specs.Fits.{EventFits, WriteFits, WritesFit, Fits}
+use Rattle.model.proofs.WriteOrders.{writes-from, from-writes}
 use Rattle.laws.proofs.Renumbered.{event-at}
 
 module _ {A : Type 0} (P : A → Type 0) where
@@ -35,35 +37,6 @@ module _ {A : Type 0} (P : A → Type 0) where
 moved-length : {A : Type 0} (q j : ℕ) (d : A) (l : List A) → j ≡ length (moved q j d l)
 unfolding moved
 moved-length q j d l = sym (table-length 0 j _)
-
-all-mapped : {A B : Type 0} (P : A → Type 0) (Q : B → Type 0) (f : A → B) → ((a : A) → P a → Q (f a)) → (l : List A) → All P l → All Q (map f l)
-all-mapped P Q f g [] h = tt
-all-mapped P Q f g (a ∷ l) h = (g a (h .0), all-mapped P Q f g l (h .1))
-
--- as many bytes
-record AsLong (a b : List ℕ) : Type 0 where
-  long : length a ≡ length b
-
-still : (a : List ℕ) → AsLong a a
-still a = record { long = refl }
-
-infixr 20 _then_
-_then_ : {a a′ b b′ : List ℕ} → AsLong a a′ → AsLong b b′ → AsLong (a ++ b) (a′ ++ b′)
-_then_ {a} {a′} {b} {b′} p q = record { long = length-append a b ∙ ap₂ _+_ (p .long) (q .long) ∙ sym (length-append a′ b′) }
-
-total-front : (j : ℕ) (g : ℕ → ℕ) → total (suc j) g ≡ g 0 + total j (λ y. g (suc y))
-total-front zero g = refl
-total-front (suc j) g = let e = total-front j g in omega arith
-
-each-table : {A : Type 0} (enc : A → List ℕ) (i j : ℕ) (f : ℕ → A) → length (each enc (table i j f)) ≡ total j (λ y. length (enc (f (i + y))))
-unfolding table each
-each-table enc i zero f = refl
-each-table enc i (suc j) f =
-    length-append (enc (f i)) (each enc (table (suc i) j f)) ∙ ap (λ (z : ℕ). length (enc (f i)) + z) (each-table enc (suc i) j f)
-    ∙ sym (total-front j (λ y. length (enc (f (i + y)))) ∙ simp (add-zero, add-suc, suc-add))
-
-table-long : {A : Type 0} (enc : A → List ℕ) (j : ℕ) (f : ℕ → A) → length (each enc (table 0 j f)) ≡ total j (λ y. length (enc (f y)))
-table-long enc j f = each-table enc 0 j f ∙ simp zero-add
 
 -- what is written of a list takes as many bytes as what is written of it moved
 moved-long :

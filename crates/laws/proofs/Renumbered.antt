@@ -17,7 +17,7 @@ use Rattle.model.specs.Limits.{mostThreads, mostAddresses}
 use Rattle.model.specs.Case.{Case, Event, noEvent, sync}
 use Rattle.model.specs.Rules.{Model, kind, thread, address, value, initial, isBarrier, before, written, verdict, final, finals}
 use Rattle.model.specs.Renumber.{moved, relabel, renumber}
-use Rattle.laws.proofs.Fits.{Fits}
+use Rattle.model.specs.Fits.{Fits}
 use Rattle.laws.proofs.Renamed.{Renamed, same-verdict}
 
 module _ (q j : ℕ) (f : T (fits q j)) where

@@ -8,16 +8,16 @@ use lib.Dec.{T, leb, leb→le}
 use lib.ListN.{length, take, drop}
 use lib.Seq.{drop-at, length-take-le}
 use Rattle.finite.proofs.Tests.{T-true, and-left}
-use Rattle.number.specs.Number.{splice}
+use Rattle.number.specs.Number.{splice, Bytes}
 use Rattle.number.specs.Reader.{next}
 use Rattle.model.specs.Case.{Case}
 use Rattle.model.specs.Record.{read}
 use Rattle.model.specs.Written.{recordOf}
 use Rattle.model.specs.Answers.{Stored, done, room, put, write}
-use Rattle.laws.proofs.Fits.{Fits, Bytes}
+use Rattle.model.specs.Fits.{Fits}
+use Rattle.model.proofs.Faultless.{handed-on}
 use Rattle.laws.proofs.ReadBack.{read-back}
 use Rattle.laws.proofs.ExactCase.{Readable, readable}
-use Rattle.laws.proofs.Faultless.{handed-on}
 use Rattle.laws.proofs.Claim.{front, written-there}
 
 module _ (c : Case) (F : Fits c) (buffer : List ℕ) (at : ℕ) (t : T (room (length (recordOf c)) buffer at)) where

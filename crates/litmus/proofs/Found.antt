@@ -6,10 +6,11 @@ use mathlib.Core.Path.{_≡_, refl, sym, ap, _∙_, subst}
 use mathlib.Core.List.{List}
 use lib.ListN.{replicate}
 use Rattle.number.specs.Reader.{Out, stop, next}
+use Rattle.number.specs.Number.{Bytes}
 use Rattle.model.specs.Limits.{mostAddresses}
 use Rattle.model.specs.Case.{Case}
 use Rattle.model.specs.Record.{read}
-use Rattle.laws.proofs.Fits.{Fits, Bytes}
+use Rattle.model.specs.Fits.{Fits}
 use Rattle.laws.proofs.Exact.{refused-least}
 use Rattle.laws.proofs.ExactCase.{readable, refused}
 use Rattle.case.specs.Held.{caseOf, held}

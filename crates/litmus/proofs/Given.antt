@@ -16,14 +16,14 @@ use Rattle.model.specs.Written.{recordOf}
 use Rattle.model.specs.Fault.{fault}
 use Rattle.model.specs.Renumber.{renumber, fitting}
 use Rattle.model.specs.Answers.{Stored, judgement, judgeOut, judge, judgeCase, refusal, done, handed, faultless, put, putOut, write, roomIn, renumberOut, renumberRecord, renumberCase}
-use Rattle.laws.proofs.Fits.{Fits, Bytes}
 use Rattle.laws.proofs.Refits.{refits, same-length}
 use Rattle.case.specs.declared.Case.{Case as Held}
 use Rattle.case.specs.Held.{caseOf, held}
 use Rattle.case.specs.Sound.{Sound}
 use Rattle.case.proofs.HeldBack.{fits-back}
 use Rattle.case.proofs.Shape.{fits-case, held-sound}
-use Rattle.number.specs.Number.{splice}
+use Rattle.number.specs.Number.{splice, Bytes}
+use Rattle.model.specs.Fits.{Fits}
 use Rattle.laws.proofs.ExactCase.{readable}
 use Rattle.reader.specs.declared.Reading.{Reading}
 use Rattle.rules.specs.Verdict.{modelOf}

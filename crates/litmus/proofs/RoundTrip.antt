@@ -6,12 +6,12 @@ use mathlib.Core.List.{List}
 use lib.Dec.{T}
 use lib.ListN.{length, take, drop}
 use Rattle.number.specs.Reader.{next}
+use Rattle.number.specs.Number.{Bytes}
 use Rattle.model.specs.Case.{Case}
 use Rattle.model.specs.Record.{read}
 use Rattle.model.specs.Written.{recordOf}
 use Rattle.model.specs.Fault.{fault}
 use Rattle.model.specs.Answers.{room, write}
-use Rattle.laws.proofs.Fits.{Bytes}
 use Rattle.laws.proofs.ExactCase.{readable}
 use Rattle.laws.proofs.RoundTrip.{written-reads-back, read-writes-back}
 use Rattle.case.specs.declared.Case.{Case as Held}

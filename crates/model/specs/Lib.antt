@@ -4,6 +4,7 @@ pub mod Rules
 pub mod Record
 pub mod Written
 pub mod Fault
+pub mod Fits
 pub mod Renumber
 pub mod Answers
 pub mod Calls

@@ -5,12 +5,13 @@ use mathlib.Core.List.{List, [], _∷_, _++_}
 use mathlib.Core.Bool.{Bool, true, false, cond}
 use mathlib.Core.Logic.{⊎-elim}
 use native.Mathlib.Omega.{arith}
-use native.Mathlib.Nat.{div-lt-iff-lt-mul, pow-suc}
+use native.Mathlib.Nat.{div-lt-iff-lt-mul, pow-suc, pow-le-pow-right}
 use lib.ListN.{length, take, drop}
 use lib.Seq.{drop-append-seam, drop-drop}
 use lib.Dec.{ltb}
 use borrow.Author.Tests.{lt-ltb, le-ltb, ltb-false}
-use Rattle.number.specs.Number.{Raw, got, short, wrong, after, readGroups, finish, readNumber, groups, encode}
+use Rattle.finite.proofs.All.{all-drop}
+use Rattle.number.specs.Number.{Raw, got, short, wrong, after, readGroups, finish, readNumber, groups, encode, Bytes}
 use Rattle.number.specs.declared.NumberRead.the-variants.{Number, Refused}
 use Rattle.number.proofs.Encoding.{encode-low, encode-high, lt-or-ge}
 
@@ -45,11 +46,6 @@ pub written-is-read : (before rest : List ℕ) (v limit : ℕ) → v < 128 ^ gro
 unfolding readNumber finish
 written-is-read before rest v limit f l =
     rw (drop-append-seam before (encode v ++ rest), read-back (groups - 1) v 0 rest f (omega arith), le-ltb limit v l)
-
--- all of a list are bytes
-pub data Bytes : List ℕ → Type 0 where
-  none : Bytes []
-  one : {b : ℕ} {s : List ℕ} → b < 256 → Bytes s → Bytes (b ∷ s)
 
 -- what groups were read are those of the value
 pub record Encoded (least : ℕ) (s : List ℕ) (v k : ℕ) : Type 0 where
@@ -101,16 +97,11 @@ pub read-is-encoded : (n least : ℕ) (s : List ℕ) (v k : ℕ) → least ≤ 1
 unfolding readGroups
 read-is-encoded zero least s v k l y e = let z : _≡_ {A = ℕ} 0 1 = cc in absurd (omega arith)
 read-is-encoded (suc n) least [] v k l y e = let z : _≡_ {A = ℕ} 0 1 = cc in absurd (omega arith)
-read-is-encoded (suc n) least (b ∷ s) v k l (one f y) e =
+read-is-encoded (suc n) least (b ∷ s) v k l y e =
     ⊎-elim
     (λ (h : b < 128). last-encoded least b s v k h (rw (lt-ltb b 128 h) at e))
-    (λ (h : 128 ≤ b). behind least b s v k l h f (readGroups n 1 s) (λ (w j : ℕ). read-is-encoded n 1 s w j (omega arith) y) (rw (le-ltb b 128 h) at e))
+    (λ (h : 128 ≤ b). behind least b s v k l h (y .0) (readGroups n 1 s) (λ (w j : ℕ). read-is-encoded n 1 s w j (omega arith) (y .1)) (rw (le-ltb b 128 h) at e))
     (lt-or-ge b 128)
-
-bytes-drop : (n : ℕ) (s : List ℕ) → Bytes s → Bytes (drop n s)
-bytes-drop zero s y = y
-bytes-drop (suc n) [] y = y
-bytes-drop (suc n) (b ∷ s) (one f y) = bytes-drop n s y
 
 -- a number that was read is within its limit, is written in the bytes read, and the next one starts behind them
 pub record Stands (s : List ℕ) (at limit v next : ℕ) : Type 0 where
@@ -142,7 +133,7 @@ pub read-is-written : (s : List ℕ) (at limit v next : ℕ) → Bytes s → rea
 unfolding readNumber
 read-is-written s at limit v next y e =
     answered s at limit v next (readGroups groups 0 (drop at s))
-    (λ (w j : ℕ). read-is-encoded groups 0 (drop at s) w j (omega arith) (bytes-drop at s y)) e
+    (λ (w j : ℕ). read-is-encoded groups 0 (drop at s) w j (omega arith) (all-drop _ at s y)) e
 
 -- a number that was read is within its limit, whatever the bytes
 finish-within : (at limit v next : ℕ) (r : Raw) → finish at limit r ≡ Number v next → v ≤ limit
@@ -170,3 +161,32 @@ pub read-at : (s rest : List ℕ) (at limit v : ℕ) → v < 128 ^ groups → v 
     → readNumber s at limit ≡ Number v (at + length (encode v))
 unfolding readNumber finish
 read-at s rest at limit v f l h = rw (h, read-back (groups - 1) v 0 rest f (omega arith), le-ltb limit v l)
+
+-- a number above the limit, where it is written, is refused with 3
+pub read-above : (s rest : List ℕ) (at limit v : ℕ) → v < 128 ^ groups → limit < v → drop at s ≡ encode v ++ rest → readNumber s at limit ≡ Refused 3 at
+unfolding readNumber finish
+read-above s rest at limit v f l h = rw (h, read-back (groups - 1) v 0 rest f (omega arith), lt-ltb limit v l)
+
+-- more groups than n
+wide : (n v least : ℕ) (t : List ℕ) → 128 ^ n ≤ v → readGroups n least (encode v ++ t) ≡ wrong
+unfolding readGroups after
+wide zero v least t h = refl
+wide (suc n) v least t h =
+    let more : 128 ^ n * 128 ≤ v = rw pow-suc at h in
+    let big : 128 ≤ v = omega (arith, pow-pos-of n) in
+    let rest : 128 ^ n ≤ v / 128 = omega arith in
+    rw (encode-high v big, le-ltb _ _ (high-group v), wide n (v / 128) 1 t rest)
+  where
+    high-group : (v : ℕ) → 128 ≤ 128 + v % 128
+    high-group v = omega arith
+
+    pow-pos-of : (n : ℕ) → 1 ≤ 128 ^ n
+    pow-pos-of n =
+        let base : 0 < 128 = omega arith in
+        let least : 0 ≤ n = omega arith in
+        pow-le-pow-right base least
+
+-- a number of more groups than there may be is refused with 2
+pub read-wide : (s rest : List ℕ) (at limit v : ℕ) → 128 ^ groups ≤ v → drop at s ≡ encode v ++ rest → readNumber s at limit ≡ Refused 2 at
+unfolding readNumber finish
+read-wide s rest at limit v f h = rw (h, wide groups v 0 rest f)

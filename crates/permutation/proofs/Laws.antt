@@ -165,6 +165,17 @@ fits-of q n hq h =
 pub fits-yes : (q n : ℕ) → q < permutations → ((x : ℕ) → x < n → image q x < n) → fits q n ≡ true
 fits-yes q n hq h = T-true (fits-of q n hq h)
 
+-- Among all labels and more, each permutation stays
+image-many : (q n : ℕ) → q < permutations → labels ≤ n → (x : ℕ) → x < n → image q x < n
+image-many q n hq l x h = near (decLt x labels)
+  where
+    near : Dec (x < labels) → image q x < n
+    near (yes b) = let i = image-below q hq x b in omega arith
+    near (no d) = let e = image-far q x (omega arith) in omega arith
+
+pub fits-many : (q n : ℕ) → q < permutations → labels ≤ n → fits q n ≡ true
+fits-many q n hq l = fits-yes q n hq (image-many q n hq l)
+
 module _ (q n : ℕ) (f : T (fits q n)) where
   pub fits-below : q < permutations
   unfolding fits
@@ -199,13 +210,9 @@ fits-inverse q n f = few (decLt n (suc labels))
     hq : q < permutations
     hq = fits-below q n f
 
-    far : labels < n → (x : ℕ) → x < n → Dec (x < labels) → image (inverse q) x < n
-    far l x h (yes near) = let b = image-below (inverse q) (inverse-below q hq) x near in omega arith
-    far l x h (no d) = let e = image-far (inverse q) x (omega arith) in omega arith
-
     few : Dec (n < suc labels) → T (fits (inverse q) n)
     few (yes h) = first-of (fits (inverse q) n) (fits q n) (all2-T permutations (suc labels) fits-back fits-back-all q n hq h) f
-    few (no d) = fits-of (inverse q) n (inverse-below q hq) (λ x h. far (omega arith) x h (decLt x labels))
+    few (no d) = fits-of (inverse q) n (inverse-below q hq) (image-many (inverse q) n (inverse-below q hq) (omega arith))
 
 -- A test of each label below n is one of each image
 pub all-image : (q n : ℕ) → T (fits q n) → (f : ℕ → Bool) → all n (λ x. f (image q x)) ≡ all n f

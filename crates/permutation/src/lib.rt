@@ -102,12 +102,16 @@ pub fn inverse(q: usize) -> usize
     wide(INVERSE[a])
 }
 
-// Whether q is a permutation number that maps the labels below n onto themselves.
+// Whether q is a permutation number that maps the labels below n onto themselves. Past its four labels it moves nothing, so that
+// no more than these are looked at.
 pub fn fits(q: usize, n: usize) -> bool
     ensures { λ b. ⌜ b ≡ fitsOf q n ⌝ }
 {
     if PERMUTATIONS <= q {
         return false;
+    }
+    if LABELS <= n {
+        return true;
     }
     let mut x = 0;
     while x < n {

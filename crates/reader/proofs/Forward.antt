@@ -16,7 +16,7 @@ use Rattle.number.specs.Reader.{Out, stop, next, Reader, give, _>>=_, onward, t
 use Rattle.model.specs.Limits.{leastEdition, mostEdition, second, mostThreads, mostAddresses, mostEvents, mostDependencies, mostValue, mostName}
 use Rattle.model.specs.Case.{Event, Dependency, bare, mostKind, mostClass, printable}
 use Rattle.model.specs.Record.{event, dependency, dependencyGood, dependencyRank, leastAfter, risingDependency, risingDependencies, dependencies, unlisted, writeOrder, nextWriteOrder, pair, rank, risingPair, nextPair, noPairs, order, bytes, printableFront, printed, text, head, listing, rest, case, storeTo}
-use Rattle.laws.proofs.Fits.{DependencyFits}
+use Rattle.model.specs.Fits.{DependencyFits}
 use Rattle.reader.specs.Answers.{Counts}
 
 -- where reading at a place goes on, it goes on from there or behind, and Q holds of what was read and the next place

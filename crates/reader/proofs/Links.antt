@@ -18,8 +18,8 @@ use Rattle.number.specs.declared.NumberRead.the-variants.{Number, Refused}
 use Rattle.model.specs.Limits.{second, mostEvents, mostDependencies}
 use Rattle.model.specs.Case.{Dependency, mostClass}
 use Rattle.model.specs.Record.{dependency, dependencyRank, leastAfter, risingDependency, risingDependencies, dependencies}
-use Rattle.laws.proofs.Fits.{DependencyFits}
-use Rattle.laws.proofs.Faultless.{least-first, least-next}
+use Rattle.model.specs.Fits.{DependencyFits}
+use Rattle.model.proofs.Faultless.{least-first, least-next}
 use Rattle.case.specs.Held.{pad, link}
 use Rattle.case.proofs.Pad.{pad-next}
 use Rattle.case.proofs.Links.{rank-most}

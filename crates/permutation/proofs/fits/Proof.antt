@@ -3,7 +3,7 @@ use Prim.Native.Nat.{ℕ, _≤_, _<_, _-_, _+_}
 use native.Mathlib.Decide.{ℕ-discrete}
 use native.Mathlib.Omega.{arith}
 use Rattle.permutation.specs.Permutation.{image}
-use Rattle.permutation.proofs.Laws.{fits-far, fits-no, fits-yes}
+use Rattle.permutation.proofs.Laws.{fits-far, fits-many, fits-no, fits-yes}
 use Rattle.permutation.proofs.fits.Statement.{statement}
 use Rattle.permutation.proofs.fits.Tie as tie
 use Rattle.permutation.proofs.fits.Reads as reads
@@ -27,15 +27,18 @@ abbrev μ-loop : tie.MeasureT-loop
 returns : tie.Need-returns Inv-loop μ-loop
 returns c = sym (fits-far (c .before .args .q) (c .before .args .n) (c .if1 .taken))
 
+returns-2 : tie.Need-returns-2 Inv-loop μ-loop
+returns-2 c = sym (fits-many _ _ (omega arith) (c .if2 .taken))
+
 loop-holds : tie.Need-loop-holds Inv-loop μ-loop
 loop-holds c = (omega arith, λ y h. omega arith)
 
 image-requires : tie.Need-image-requires Inv-loop μ-loop
 image-requires c κs = omega arith
 
-returns-2 : tie.Need-returns-2 Inv-loop μ-loop
-returns-2 c =
-    let a = c .before .before .before .before .before .args in
+returns-3 : tie.Need-returns-3 Inv-loop μ-loop
+returns-3 c =
+    let a = c .before .before .before .before .before .before .args in
     sym (fits-no (a .q) (a .n) (c .before .before .before .loop .x) (omega arith) (omega arith) (omega arith))
 
 add-x : tie.Need-add-x Inv-loop μ-loop
@@ -48,8 +51,8 @@ loop-again : tie.Need-loop-again Inv-loop μ-loop
 loop-again c =
     (omega arith, below-or-at (c .before .before .before .loop .inv .1) (omega arith))
 
-returns-3 : tie.Need-returns-3 Inv-loop μ-loop
-returns-3 c = sym (fits-yes _ _ (omega arith) (λ x h. c .before .loop .inv .1 x (omega arith)))
+returns-4 : tie.Need-returns-4 Inv-loop μ-loop
+returns-4 c = sym (fits-yes _ _ (omega arith) (λ x h. c .before .loop .inv .1 x (omega arith)))
 
 pub fits-spec : {M : Type 1} → statement M
 fits-spec =
@@ -58,10 +61,11 @@ fits-spec =
     Inv-loop
     μ-loop
     returns
+    returns-2
     loop-holds
     image-requires
-    returns-2
+    returns-3
     add-x
     loop-less
     loop-again
-    returns-3)
+    returns-4)

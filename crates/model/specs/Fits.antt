@@ -1,4 +1,5 @@
--- Cases that keep the limits: those that a record gives.
+-- Cases that keep the limits of 01, "What a case may hold", and of the layout: those that a record gives (theorem `readable-iff` of
+-- `laws`), and those that are handed without fault (`faultless`, `fits-of`).
 -- Assumes nothing.
 use Prim.Native.Nat.{ℕ, _≤_, _<_, _^_}
 use mathlib.Core.Path.{_≡_}
@@ -7,18 +8,12 @@ use mathlib.Core.List.{List, [], _∷_, _++_}
 use lib.Dec.{leb}
 use lib.ListN.{length}
 use Rattle.finite.specs.Tests.{count}
-use Rattle.finite.specs.Lists.{every}
+use Rattle.finite.specs.Lists.{every, All, AllFrom}
 use Rattle.model.specs.Limits.{leastEdition, mostEdition, second, mostThreads, mostAddresses, mostEvents, mostDependencies, mostValue, mostName}
 use Rattle.model.specs.Case.{Case, Event, Dependency, mostKind, bare, mostClass, printable}
 use Rattle.model.specs.Record.{dependencyGood, dependencyRank, leastAfter, member, storeTo}
 
-abbrev pub All : {A : Type 0} → (A → Type 0) → List A → Type 0
-All P [] = Unit {0}
-All P (a ∷ as′) = P a × All P as′
-
-abbrev pub Bytes : List ℕ → Type 0
-Bytes s = All (λ b. b < 256) s
-
+-- an event's numbers are in their ranges; a bare one's address and value hold 0
 pub record EventFits (edition n m : ℕ) (e : Event) : Type 0 where
   pub kind : e .kind ≤ mostKind edition
   pub thread : e .thread < n
@@ -44,11 +39,17 @@ abbrev pub WriteFits : (k : ℕ) (mine : ℕ → Bool) → List ℕ → List ℕ
 WriteFits k mine before [] = Unit {0}
 WriteFits k mine before (e ∷ w) = (e < k) × ((mine e && not (member e before)) ≡ true) × WriteFits k mine (before ++ (e ∷ [])) w
 
+-- each write order lists all the stores to its address
 abbrev pub WritesFit : (k : ℕ) (mine : ℕ → ℕ → Bool) → List (List ℕ) → List (List ℕ) → Type 0
 WritesFit k mine before [] = Unit {0}
 WritesFit k mine before (w ∷ ws) =
     (length w ≡ count k (mine (length before))) × WriteFits k (mine (length before)) [] w × WritesFit k mine (before ++ (w ∷ [])) ws
 
+-- an order's rows: one for each of k events, with no bit past the last
+abbrev pub RowsFit : (k : ℕ) → List ℕ → Type 0
+RowsFit k rows = (length rows ≡ k) × All (λ r. r < 2 ^ k) rows
+
+-- a case keeps the limits, and its lists are as long as its counts say
 pub record Fits (c : Case) : Type 0 where
   pub edition-least : leastEdition ≤ c .edition
   pub edition-most : c .edition ≤ mostEdition
@@ -67,6 +68,19 @@ pub record Fits (c : Case) : Type 0 where
   pub m′ : c .m ≡ length (c .writes)
   pub writes : WritesFit (c .k) (storeTo (c .events)) [] (c .writes)
   pub n : c .n ≡ length (c .orders)
-  pub orders : All (λ rows. (length rows ≡ c .k) × All (λ r. r < 2 ^ (c .k)) rows) (c .orders)
+  pub orders : All (RowsFit (c .k)) (c .orders)
   pub name : length (c .name) ≤ mostName
   pub name-printable : every printable (c .name) ≡ true
+
+-- what every struct has, with or without fault (theorem `shaped` of `case`): the lists are as long as the counts say, edition 1 has no
+-- dependencies, a bare event's address and value hold 0, and rows have no bit past the last event
+pub record Shaped (c : Case) : Type 0 where
+  pub m : c .m ≡ length (c .initials)
+  pub k : c .k ≡ length (c .events)
+  pub no-address : All (λ e. bare (e .kind) ≡ true → e .address ≡ 0) (c .events)
+  pub no-value : All (λ e. bare (e .kind) ≡ true → e .value ≡ 0) (c .events)
+  pub no-dependencies : second (c .edition) ≡ false → c .dependencies ≡ []
+  pub m′ : c .m ≡ length (c .writes)
+  pub writes : AllFrom (λ x w. length w ≡ count (c .k) (storeTo (c .events) x)) 0 (c .writes)
+  pub n : c .n ≡ length (c .orders)
+  pub orders : All (RowsFit (c .k)) (c .orders)

@@ -1,6 +1,6 @@
 -- Cases handed without bytes: those without fault are those that fit.
 -- Assumes nothing.
-use Prim.Native.Nat.{ℕ, zero, suc, _+_, _≤_, _<_, _^_}
+use Prim.Native.Nat.{ℕ, zero, suc, _+_, _≤_}
 use native.Mathlib.Omega.{arith}
 use mathlib.Core.Path.{_≡_, refl, sym, subst}
 use mathlib.Core.Bool.{Bool, true, false, not, _&&_, _||_, true≢false}
@@ -9,50 +9,21 @@ use lib.Dec.{leb, ltb}
 use lib.ListN.{length}
 use borrow.Author.Tests.{le-leb, leb-true, lt-ltb, ltb-true}
 use Rattle.finite.specs.Tests.{count}
-use Rattle.finite.specs.Lists.{every}
+use Rattle.finite.specs.Lists.{every, AllFrom}
 use Rattle.finite.proofs.Tests.{and-l, and-r, and-i}
+use Rattle.finite.proofs.All.{all-map, all-three, every-make, every-get, from-map}
 use Rattle.number.specs.Reader.{next}
-use Rattle.model.specs.Limits.{between, leastEdition, mostEdition, second, mostThreads, mostAddresses, mostEvents, mostDependencies, mostValue, mostName}
+use Rattle.model.specs.Limits.{between, leastEdition, mostEdition, mostThreads, mostAddresses, mostEvents, mostDependencies, mostValue, mostName}
 use Rattle.model.specs.Case.{Case, Event, Dependency, mostKind, bare, mostClass, printable}
 use Rattle.model.specs.Rules.{lastOf, orElse}
-use Rattle.model.specs.Record.{dependencyGood, dependencyRank, leastAfter, member, storeTo, read}
+use Rattle.model.specs.Record.{dependencyGood, dependencyRank, leastAfter, member, storeTo}
 use Rattle.model.specs.Written.{recordOf}
 use Rattle.model.specs.Fault.{eventGood, firstFault, dependencyWithin, dependencyFault, writeFault, writesFault, nameFault, fault}
 use Rattle.model.specs.Answers.{handed}
-use Rattle.laws.proofs.Fits.{All, EventFits, DependencyFits, DependenciesFit, WriteFits, Fits}
-use Rattle.laws.proofs.AllFrom.{AllFrom, from-map, WritesFrom, writes-from, from-writes}
-use Rattle.laws.proofs.ReadBack.{all-map, read-back}
-
--- ---- what no fault tells
-
--- the lists are as long as the counts say, edition 1 has no dependencies, what stands for nothing is 0, rows hold no event past the last
-pub record Shaped (c : Case) : Type 0 where
-  pub m : c .m ≡ length (c .initials)
-  pub k : c .k ≡ length (c .events)
-  pub no-address : All (λ e. bare (e .kind) ≡ true → e .address ≡ 0) (c .events)
-  pub no-value : All (λ e. bare (e .kind) ≡ true → e .value ≡ 0) (c .events)
-  pub no-dependencies : second (c .edition) ≡ false → c .dependencies ≡ []
-  pub m′ : c .m ≡ length (c .writes)
-  pub writes : AllFrom (λ x w. length w ≡ count (c .k) (storeTo (c .events) x)) 0 (c .writes)
-  pub n : c .n ≡ length (c .orders)
-  pub orders : All (λ rows. (length rows ≡ c .k) × All (λ r. r < 2 ^ (c .k)) rows) (c .orders)
+use Rattle.model.specs.Fits.{EventFits, DependencyFits, DependenciesFit, WriteFits, Fits, Shaped}
+use Rattle.model.proofs.WriteOrders.{WritesFrom, writes-from, from-writes}
 
 -- ---- tests and faults
-
-pub every-make : {A : Type 0} (P : A → Type 0) (f : A → Bool) → ((a : A) → P a → f a ≡ true) → (l : List A) → All P l → every f l ≡ true
-unfolding every
-every-make P f h [] p = refl
-every-make P f h (a ∷ l) p = and-i (f a) (every f l) (h a (p .0)) (every-make P f h l (p .1))
-
-pub every-get : {A : Type 0} (f : A → Bool) (l : List A) → every f l ≡ true → All (λ a. f a ≡ true) l
-unfolding every
-every-get f [] e = tt
-every-get f (a ∷ l) e = (and-l (f a) (every f l) e, every-get f l (and-r (f a) (every f l) e))
-
--- what holds where three others do
-all-three : {A : Type 0} (P Q R S : A → Type 0) → ((a : A) → P a → Q a → R a → S a) → (l : List A) → All P l → All Q l → All R l → All S l
-all-three P Q R S f [] p q r = tt
-all-three P Q R S f (a ∷ l) p q r = (f a (p .0) (q .0) (r .0), all-three P Q R S f l (p .1) (q .1) (r .1))
 
 -- a test that is passed
 record Passed (t : Bool) (rest : ℕ) : Type 0 where
@@ -271,7 +242,3 @@ shaped c F = record {
 pub handed-on : (c : Case) → Fits c → handed c ≡ next c (length (recordOf c))
 unfolding handed
 handed-on c F = rw (faultless c F)
-
--- what a writer makes of a case without fault is read back as the case
-pub round-trip : (c : Case) → Shaped c → fault c ≡ 0 → (t : List ℕ) → read (recordOf c ++ t) ≡ next c (length (recordOf c))
-round-trip c S e t = read-back c (fits-of c S e) t

@@ -1,0 +1,3 @@
+pub mod ReadsAs
+pub mod Exact
+pub mod AsLong
