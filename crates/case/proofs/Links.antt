@@ -5,7 +5,7 @@ use native.Mathlib.Nat.{mul-le-mul}
 use native.Mathlib.Omega.{arith}
 use native.Mathlib.Decide.{decLt}
 use mathlib.Core.Path.{_≡_, refl, sym, ap, _∙_, fun-ext}
-use mathlib.Core.Bool.{Bool, true, false, not, _&&_, _||_}
+use mathlib.Core.Bool.{Bool, true, false, not, _&&_, _||_, true≢false}
 use mathlib.Core.List.{List, [], _∷_}
 use lib.Dec.{eqb, leb, ltb}
 use lib.ListN.{length, getD, List·getD-eq-default}
@@ -16,7 +16,7 @@ use Rattle.finite.specs.Lists.{table}
 use Rattle.finite.proofs.Tests.{and-l, and-r}
 use Rattle.finite.proofs.Lists.{table-get, table-past, table-length, table-turn, table-end}
 use Rattle.model.specs.Limits.{mostEvents}
-use Rattle.model.specs.Case.{Event, Dependency, noEvent, load, store, bare, byAddress, mostClass}
+use Rattle.model.specs.Case.{Event, Dependency, noEvent, load, store, bare, byAddress, byData, byControl, mostClass}
 use Rattle.model.specs.Rules.{orElse}
 use Rattle.model.specs.Record.{dependencyGood, dependencyRank}
 use Rattle.model.specs.Fault.{dependencyWithin, dependencyFault}
@@ -107,17 +107,36 @@ module _ (k : ℕ) (ks ts : List ℕ) (x a b : ℕ) (ha : a < k) (hb : b < k) wh
           → r ≡ goodAt k ks ts (link x a b)
       by-end t r e = rw (good-by, eq-eqb (getD ks a 0) load l, lt-ltb a b g, eq-eqb (getD ts a 0) (getD ts b 0) t) e
 
+-- which classes end in a store
+module _ (x : ℕ) where
+  pub not-by-address : x ≡ byAddress → false ≡ not (eqb x byAddress)
+  not-by-address e = rw (eq-eqb x byAddress e)
+
+  pub by-data : x ≡ byData → true ≡ not (eqb x byAddress)
+  by-data e = rw (ne-eqb x byAddress (λ z. omega arith))
+
+  pub by-control : x ≤ mostClass → (x ≡ byAddress → ⊥) → (x ≡ byData → ⊥) → eqb x byControl ≡ not (eqb x byAddress)
+  by-control h n d = rw (eq-eqb x byControl (omega arith), ne-eqb x byAddress n)
+
 -- the end of a dependency
 module _ (x kind : ℕ) (t : Bool) (et : t ≡ bare kind) where
   pub no-access : t ≡ true → false ≡ (not (bare kind) && (eqb x byAddress || eqb kind store))
   no-access y = rw (← et, y)
 
-  module _ (y : t ≡ false) where
-    pub address-ends : x ≡ byAddress → true ≡ (not (bare kind) && (eqb x byAddress || eqb kind store))
-    address-ends e = rw (← et, y, eq-eqb x byAddress e)
+  module _ (y : t ≡ false) (s : Bool) (es : s ≡ not (eqb x byAddress)) where
+    pub store-ends : s ≡ true → eqb kind store ≡ (not (bare kind) && (eqb x byAddress || eqb kind store))
+    store-ends z = rw (← et, y) (go (eqb x byAddress) (sym es ∙ z))
+      where
+        go : (b : Bool) → not b ≡ true → eqb kind store ≡ (b || eqb kind store)
+        go true n = absurd (true≢false (sym n))
+        go false n = refl
 
-    pub store-ends : (x ≡ byAddress → ⊥) → eqb kind store ≡ (not (bare kind) && (eqb x byAddress || eqb kind store))
-    store-ends n = rw (← et, y, ne-eqb x byAddress n)
+    pub address-ends : s ≡ false → true ≡ (not (bare kind) && (eqb x byAddress || eqb kind store))
+    address-ends z = rw (← et, y) (go (eqb x byAddress) (sym es ∙ z))
+      where
+        go : (b : Bool) → not b ≡ false → true ≡ (b || eqb kind store)
+        go true n = refl
+        go false n = absurd (true≢false n)
 
 -- of the rank asked for
 module _ (least rank : ℕ) (good : Bool) (r : ℕ) (er : r ≡ rank) where

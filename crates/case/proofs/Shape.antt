@@ -25,7 +25,7 @@ cleared k t a v =
     event-by (λ e. bare (e .kind) ≡ true → (e .address ≡ 0) × (e .value ≡ 0)) k t a v (λ h z. (refl, refl)) (λ h z. absurd (true≢false (sym z ∙ h)))
 
 module _ (c : Held) where
-  shaped : Shaped (caseOf c)
+  pub shaped : Shaped (caseOf c)
   unfolding caseOf eventsOf linkCount linksOf table
   shaped = record {
     m = sym (table-length 0 (c .addresses) _);

@@ -88,7 +88,7 @@ impl Case {
 
     pub const BY_CONTROL: usize = 2;
 
-    pub const MOST_CLASS: usize = 2;
+    pub const MOST_CLASS: usize = Case::BY_CONTROL;
 
     // A case with nothing in it, which no record gives: what stands beside a refusal.
     pub fn empty() -> Case
@@ -281,17 +281,32 @@ pub fn link_rank(k: usize, class: usize, from: usize, to: usize) -> usize
     (from * k + to) * (Case::MOST_CLASS + 1) + class
 }
 
+// Whether a dependency of the class must end in a store: by data and by control, and not by address.
+fn ends_in_store(class: usize) -> bool
+    requires { ⌜ class ≤ mostClass ⌝ }
+    ensures { λ r. ⌜ r ≡ not (eqb class byAddress) ⌝ }
+{
+    if class == Case::BY_ADDRESS {
+        return false;
+    }
+    if class == Case::BY_DATA {
+        return true;
+    }
+    class == Case::BY_CONTROL
+}
+
 // Whether a dependency of the class may end in an event of the kind.
 fn may_end(class: usize, kind: u8) -> bool
+    requires { ⌜ class ≤ mostClass ⌝ }
     ensures { λ r. ⌜ r ≡ (not (bareKind kind) && (eqb class byAddress || eqb kind store)) ⌝ }
 {
     if bare(kind) {
         return false;
     }
-    if class == Case::BY_ADDRESS {
-        return true;
+    if ends_in_store(class) {
+        return kind == Case::STORE;
     }
-    kind == Case::STORE
+    true
 }
 
 // Whether a dependency is good: from a load to a load or store listed later in its thread, by its address if to a load.
@@ -304,6 +319,7 @@ fn link_good(
     to: usize,
 ) -> bool
     requires { ⌜ k ≤ mostEvents ⌝ }
+    requires { ⌜ class ≤ mostClass ⌝ }
     requires { ⌜ from < k ⌝ }
     requires { ⌜ to < k ⌝ }
     ensures { λ r. ⌜ r ≡ goodAt k (now (kinds .entry)) (now (owners .entry)) (link class from to) ⌝ }
@@ -442,11 +458,7 @@ pub fn count_stores(
 }
 
 // The event at place i of the write order of x.
-pub fn write_at(
-    writes: &[u8; Case::MOST_ADDRESSES * Case::MOST_EVENTS],
-    x: usize,
-    i: usize,
-) -> usize
+fn write_at(writes: &[u8; Case::MOST_ADDRESSES * Case::MOST_EVENTS], x: usize, i: usize) -> usize
     requires { ⌜ (x < mostAddresses) × (i < mostEvents) ⌝ }
     ensures { λ r. ⌜ r ≡ getD (now (writes .entry)) (x * mostEvents + i) 0 ⌝ }
 {

@@ -10,6 +10,10 @@ use lib.ListN.{length, getD, drop}
 use Rattle.finite.specs.Lists.{table, every, All, AllFrom}
 use Rattle.finite.proofs.Tests.{and-l, and-r, and-i}
 
+pub all-make : {A : Type 0} (P : A → Type 0) → ((a : A) → P a) → (l : List A) → All P l
+all-make P f [] = tt
+all-make P f (a ∷ l) = (f a, all-make P f l)
+
 pub all-map : {A : Type 0} (P Q : A → Type 0) → ((a : A) → P a → Q a) → (l : List A) → All P l → All Q l
 all-map P Q f [] h = tt
 all-map P Q f (a ∷ l) h = (f a (h .0), all-map P Q f l (h .1))

@@ -119,7 +119,7 @@ both-r : (q r : ℕ) (c : Case) → T (both q r c) → T (fits r (c .m))
 both-r q r c t = and-right (fits q (c .n)) _ t
 
 module _ (c : Case) (F : Fits c) where
-  read-alone : read (recordOf c) ≡ next c (length (recordOf c))
+  pub read-alone : read (recordOf c) ≡ next c (length (recordOf c))
   read-alone = ap read (sym (append-nil (recordOf c))) ∙ read-back c F []
 
   -- a renumbering of c, read from bytes or handed
@@ -304,6 +304,28 @@ module _ (c : Case) (F : Fits c) where
   start-fits : Fitting start
   unfolding Fitting
   start-fits = (fits-identity (c .n), fits-identity (c .m))
+
+-- the case whose record the next call is handed
+pub record Followed (c : Case) (x : Call) : Type 0 where
+  pub next-case : Case
+  pub fits : Fits next-case
+  pub is : following (recordOf c) x ≡ recordOf next-case
+
+pub follows : (c : Case) → Fits c → (x : Call) → Followed c x
+follows c F (judging model behind) = record { next-case = c; fits = F; is = refl }
+follows c F (renumbering q r behind buffer at) =
+    let x : Call = renumbering q r behind buffer at in
+    let b : Composed = entered (c .n) (c .m) (length (recordOf c)) start x in
+    let fit = entered-fits c F start (start-fits c F) q r behind buffer at in
+    record {
+      next-case = ruled c b;
+      fits = now-fits c F b fit;
+      is =
+          ap (λ (d : Case). following (recordOf d) x) (sym (renumber-identity c F))
+          ∙ renumbering-next c F start (start-fits c F) q r behind buffer at;
+    }
+follows c F (judgingCase model) = record { next-case = c; fits = F; is = refl }
+follows c F (renumberingCase q r) = record { next-case = c; fits = F; is = refl }
 
 -- the record of readable bytes is their front
 pub front : (bytes : List ℕ) (c : Case) (size : ℕ) → Readable bytes c size → take size bytes ≡ recordOf c

@@ -19,3 +19,4 @@ pub mod Corollaries
 pub mod RoundTrip
 pub mod FirstAnswers
 pub mod AnyNames
+pub mod FirstBadField

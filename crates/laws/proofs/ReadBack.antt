@@ -26,7 +26,7 @@ use Rattle.model.specs.Case.{Case, Event, Dependency, sync, lwsync, mostKind, b
 use Rattle.model.specs.Record.{event, dependency, dependencyGood, leastAfter, risingDependency, risingDependencies, dependencies, member, storeTo, unlisted, writeOrder, nextWriteOrder, Pair, Rows, pair, rank, risingPair, withPair, nextPair, noPairs, order, bytes, printed, text, Head, head, Listing, listing, Rest, rest, case, read}
 use Rattle.model.specs.Written.{eventBytes, dependencyBytes, dependenciesBytes, pairBytes, rowPairs, rowsPairs, orderBytes, recordOf}
 use Rattle.model.specs.Fault.{fault}
-use Rattle.model.specs.Fits.{EventFits, DependencyFits, DependenciesFit, WriteFits, WritesFit, Fits, Shaped}
+use Rattle.model.specs.Fits.{EventFits, DependencyFits, DependenciesFit, WriteFits, WritesFit, RowsFit, Fits, Shaped}
 use Rattle.model.proofs.Faultless.{fits-of}
 
 -- no edition has a greater kind
@@ -235,10 +235,12 @@ pub parted : (c : Case)
 unfolding recordOf
 parted c = simp append-assoc
 
-module _ (c : Case) (F : Fits c) where
-  square : c .k * c .k ≤ mostEvents * mostEvents
-  square = mul-le-mul (F .k-most) (F .k-most)
+pub reads-all-orders : (k : ℕ) (os : List (List ℕ)) → k ≤ mostEvents → All (RowsFit k) os → ReadsAs (times (length os) (order k)) (each (orderBytes k) os) os
+reads-all-orders k os few h =
+    let square : k * k ≤ mostEvents * mostEvents = mul-le-mul few few in
+    reads-times (order k) (orderBytes k) os (all-map _ _ (λ rows f. reads-order k rows (f .0) (f .1) (omega arith) (omega arith)) os h)
 
+module _ (c : Case) (F : Fits c) where
   initials : ReadsAs (times (c .m) (upTo mostValue)) (each encode (c .initials)) (c .initials)
   initials =
       rw (F .m) (reads-times (upTo mostValue) encode (c .initials)
@@ -255,9 +257,7 @@ module _ (c : Case) (F : Fits c) where
       (writes-steps (c .k) (storeTo (c .events)) [] (c .writes) (F .writes) (omega (arith, F .k-most))))
 
   pub reads-orders : ReadsAs (times (c .n) (order (c .k))) (each (orderBytes (c .k)) (c .orders)) (c .orders)
-  reads-orders =
-      rw (F .n) (reads-times (order (c .k)) (orderBytes (c .k)) (c .orders)
-      (all-map _ _ (λ rows h. reads-order (c .k) rows (h .0) (h .1) (omega (arith, square)) (omega (arith, F .k-most))) (c .orders) (F .orders)))
+  reads-orders = rw (F .n) (reads-all-orders (c .k) (c .orders) (F .k-most) (F .orders))
 
   pub reads-head : ReadsAs head (headBytes (headOf c)) (headOf c)
   unfolding head

@@ -4,3 +4,5 @@ pub mod Found
 pub mod Given
 pub mod RoundTrip
 pub mod OrderAnswers
+pub mod StructClaim
+pub mod FirstBadField

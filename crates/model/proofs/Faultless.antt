@@ -26,11 +26,11 @@ use Rattle.model.proofs.WriteOrders.{WritesFrom, writes-from, from-writ
 -- ---- tests and faults
 
 -- a test that is passed
-record Passed (t : Bool) (rest : ℕ) : Type 0 where
-  here : t ≡ true
-  there : rest ≡ 0
+pub record Passed (t : Bool) (rest : ℕ) : Type 0 where
+  pub here : t ≡ true
+  pub there : rest ≡ 0
 
-passed : (t : Bool) (x rest : ℕ) → orElse t (suc x) rest ≡ 0 → Passed t rest
+pub passed : (t : Bool) (x rest : ℕ) → orElse t (suc x) rest ≡ 0 → Passed t rest
 passed true x rest e = record { here = refl; there = e }
 passed false x rest e = absurd (omega arith)
 
@@ -54,10 +54,10 @@ module _ (lo hi v : ℕ) where
   between-make : lo ≤ v → v ≤ hi → between lo hi v ≡ true
   between-make l h = and-i (leb lo v) (leb v hi) (le-leb lo v l) (le-leb v hi h)
 
-  between-least : between lo hi v ≡ true → lo ≤ v
+  pub between-least : between lo hi v ≡ true → lo ≤ v
   between-least e = leb-true lo v (and-l (leb lo v) (leb v hi) e)
 
-  between-most : between lo hi v ≡ true → v ≤ hi
+  pub between-most : between lo hi v ≡ true → v ≤ hi
   between-most e = leb-true v hi (and-r (leb lo v) (leb v hi) e)
 
 -- ---- an event

@@ -10,7 +10,7 @@ use Rattle.finite.specs.Tests.{count}
 use Rattle.finite.specs.Lists.{AllFrom}
 use Rattle.model.specs.Fits.{WriteFits, WritesFit}
 
-one-longer : {A : Type 0} (l : List A) (a : A) → length (l ++ (a ∷ [])) ≡ suc (length l)
+pub one-longer : {A : Type 0} (l : List A) (a : A) → length (l ++ (a ∷ [])) ≡ suc (length l)
 one-longer l a = length-append l (a ∷ []) ∙ add-one (length l)
 
 -- write orders that fit are each as long as there are stores to its address, and list those

@@ -3,12 +3,13 @@
 -- Assumes nothing.
 use Prim.Native.Nat.{ℕ, _≤_, _<_, _^_}
 use mathlib.Core.Path.{_≡_}
-use mathlib.Core.Bool.{Bool, true, false, not, _&&_}
+use mathlib.Core.Bool.{Bool, true, false, not, cond, _&&_}
 use mathlib.Core.List.{List, [], _∷_, _++_}
-use lib.Dec.{leb}
+use lib.Dec.{eqb, leb}
 use lib.ListN.{length}
 use Rattle.finite.specs.Tests.{count}
 use Rattle.finite.specs.Lists.{every, All, AllFrom}
+use Rattle.number.specs.Number.{groups}
 use Rattle.model.specs.Limits.{leastEdition, mostEdition, second, mostThreads, mostAddresses, mostEvents, mostDependencies, mostValue, mostName}
 use Rattle.model.specs.Case.{Case, Event, Dependency, mostKind, bare, mostClass, printable}
 use Rattle.model.specs.Record.{dependencyGood, dependencyRank, leastAfter, member, storeTo}
@@ -84,3 +85,25 @@ pub record Shaped (c : Case) : Type 0 where
   pub writes : AllFrom (λ x w. length w ≡ count (c .k) (storeTo (c .events) x)) 0 (c .writes)
   pub n : c .n ≡ length (c .orders)
   pub orders : All (RowsFit (c .k)) (c .orders)
+
+-- P holds of every number that the record of a case has, but for those of the thread orders, which are taken as sets
+pub record Numbers (P : ℕ → Type 0) (c : Case) : Type 0 where
+  pub edition : P (c .edition)
+  pub n : P (c .n)
+  pub m : P (c .m)
+  pub initials : All P (c .initials)
+  pub k : P (c .k)
+  pub events : All (λ e. P (e .kind) × P (e .thread) × P (e .address) × P (e .value)) (c .events)
+  pub dependencies-count : P (length (c .dependencies))
+  pub dependencies : All (λ d. P (d .class) × P (d .from) × P (d .to)) (c .dependencies)
+  pub writes : All (All P) (c .writes)
+  pub name-count : P (length (c .name))
+
+-- the layout can state the case: no number has more groups than there may be
+abbrev pub Stated : Case → Type 0
+Stated c = Numbers (λ v. v < 128 ^ groups) c
+
+-- the fault of a case whose record is refused with x: a number of too many groups, which reading refuses with 2, is one outside its
+-- range, 3, where there are no bytes
+abbrev pub asFault : ℕ → ℕ
+asFault x = cond (eqb x 2) 3 x

@@ -54,7 +54,7 @@ around k own asked a =
 
 -- ---- 13
 
--- what a barrier, and what another event, has to keep its place to
+-- the events before which a barrier, and another event, has to stay
 module _ (own barriers partner dependent a : ℕ) where
   abbrev bound : ℕ → Bool
   bound b = bit own b && (bit barriers a || bit barriers b || bit partner b || bit dependent b)

@@ -240,7 +240,8 @@ pub fn rule12<'a>(
     true
 }
 
-// Of thread p's events, those that a has to keep its place to.
+// Of thread p's events, those before which a has to stay if it is listed before them: all where a is a barrier, else the barriers,
+// those that use its address and those that depend on it.
 fn bound_to(own: u64, barriers: u64, partner: u64, dependent: u64, a: usize) -> u64
     requires { ⌜ a < mostEvents ⌝ }
     ensures { λ r. ⌜ Set r (λ b. bit own b && (bit barriers a || bit barriers b || bit partner b || bit dependent b)) ⌝ }
@@ -252,7 +253,7 @@ fn bound_to(own: u64, barriers: u64, partner: u64, dependent: u64, a: usize) -> 
     }
 }
 
-// Event a of thread p comes before those listed after it to which it keeps its place.
+// Event a of thread p comes before those that are listed after it and before which it has to stay.
 fn listed_event(
     own: u64,
     barriers: u64,

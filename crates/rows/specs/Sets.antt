@@ -14,7 +14,8 @@ use Rattle.model.specs.Limits.{mostEvents}
 pub record Set (r : ℕ) (f : ℕ → Bool) : Type 0 where
   pub has : (e : ℕ) → bit r e ≡ f e
 
--- the first n numbers of the list are the sets of the numbers that pass f
+-- the first n numbers of the list are the sets of the numbers that pass f. Those from n on are left open: n is how many threads or
+-- events there are, and what stands beyond is looked at by nobody
 pub record Sets (n : ℕ) (sets : List ℕ) (f : ℕ → ℕ → Bool) : Type 0 where
   pub has : (x : ℕ) → x < n → (e : ℕ) → bit (getD sets x 0) e ≡ f x e
 

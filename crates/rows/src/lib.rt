@@ -280,7 +280,7 @@ fn at_label(
     }
 }
 
-// By event of the set, what stands at its label.
+// By event of the set, what stands at its label. The entries from k on are left open: there is no such event.
 pub fn by_event(
     sets: &[u64; Case::MOST_ADDRESSES],
     bytes: &[u8; Case::MOST_EVENTS],
@@ -309,7 +309,7 @@ fn light_row(barriers: u64, stores: u64, loads: u64, k: usize, e: usize) -> u64
     where_so(!bits::has(barriers, e), later)
 }
 
-// By event, the events that a light barrier orders after it.
+// By event, the events that a light barrier orders after it. The entries from k on are left open: there is no such event.
 pub fn light(barriers: u64, stores: u64, loads: u64, k: usize) -> [u64; Case::MOST_EVENTS]
     requires { ⌜ k ≤ mostEvents ⌝ }
     ensures { λ r. ⌜ Sets k r (λ e g. ltb g k && lightIn barriers stores loads e g) ⌝ }

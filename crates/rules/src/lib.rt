@@ -47,7 +47,9 @@ fn dependents(c: Case) -> [u64; Case::MOST_EVENTS]
     rows::dependents(&c.from, &c.to, count)
 }
 
-pub fn gather(c: Case) -> EventSets
+// The sets of a case. `Agrees` speaks of its threads and events; what the sets hold beyond these numbers is left open, since every
+// rule asks of the case's own threads and events alone.
+fn gather(c: Case) -> EventSets
     requires { ⌜ Sound c ⌝ }
     ensures { λ r. ⌜ Agrees (caseOf c) r ⌝ }
 {

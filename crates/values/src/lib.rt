@@ -341,7 +341,8 @@ fn carried(
     true
 }
 
-// So does every event before f in thread p's order, if f is one of the fences.
+// Where f is one of the fences: every event before f in thread p's order comes before every event of the second set that f orders
+// after it.
 fn carried_past(
     fences: u64,
     then: u64,
@@ -546,7 +547,7 @@ fn read_by(
     }
 }
 
-// By load, the stores from which it must read.
+// By load, the stores from which it must read. The entries from k on are left open: there is no such event.
 pub fn reads_from<'a>(
     loads: u64,
     stores: u64,

@@ -35,7 +35,7 @@ listingBytes is ks ts as′ vs m k = run (initialAt is) m ++ (encode k ++ run (e
 unfoldable pub linkAt : (classes froms tos : List ℕ) → ℕ → List ℕ
 linkAt xs as′ bs j = dependencyBytes (link (getD xs j 0) (getD as′ j 0) (getD bs j 0))
 
--- the number of dependencies and they, in an edition that has them
+-- the count of the dependencies and each of them; nothing in edition 1, which has no such field
 unfoldable pub linksBytes : (edition : ℕ) (classes froms tos : List ℕ) → ℕ → List ℕ
 linksBytes edition xs as′ bs i = cond (second edition) (encode i ++ run (linkAt xs as′ bs) i) []
 

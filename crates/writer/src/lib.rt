@@ -192,7 +192,7 @@ fn size_counted_links<'a>(
     count + size_links(classes, froms, tos, i)
 }
 
-// The number of dependencies and they, in an edition that has them.
+// How many bytes the dependencies take with their count; none in edition 1, which has no such field.
 fn size_dependencies<'a>(
     edition: usize,
     classes: &'a [u8; Case::MOST_DEPENDENCIES],
@@ -513,7 +513,7 @@ fn write_counted_links<'a>(
     write_links(out, after_count, classes, froms, tos, i)
 }
 
-// The number of dependencies and they, in an edition that has them.
+// The count of the dependencies and each of them; nothing in edition 1, which has no such field.
 fn write_dependencies<'a>(
     out: &mut [u8],
     at: usize,

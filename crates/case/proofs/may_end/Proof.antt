@@ -10,5 +10,6 @@ may-end-spec =
     (tie.spec
     (λ c κs. search needs)
     (λ c. search no-access)
-    (λ c. search address-ends)
-    (λ c. search store-ends))
+    (λ c κs. search needs)
+    (λ c. search store-ends)
+    (λ c. search address-ends))

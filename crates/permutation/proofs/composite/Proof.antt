@@ -8,36 +8,25 @@ use Rattle.permutation.proofs.Laws.{composite-known}
 use borrow.Author.Needs.{needs}
 use Rattle.permutation.proofs.composite.Statement.{statement}
 use Rattle.permutation.proofs.composite.Tie as tie
-use Rattle.permutation.proofs.composite.Reads as reads
-use Rattle.permutation.proofs.composite.Lts as lts
-use Rattle.permutation.proofs.known.Reads as known-reads
-use Rattle.permutation.proofs.wide.Reads as wide-reads
 
--- src/lib.rt:745:9
 known-requires : tie.Need-known-requires
 known-requires c κs = search needs
 
--- src/lib.rt:746:9
 known-requires-2 : tie.Need-known-requires-2
 known-requires-2 c κs = search needs
 
--- src/lib.rt:747:20
 mul-wide : tie.Need-mul-wide
 mul-wide c = search needs
 
--- src/lib.rt:747:20
 add-wide : tie.Need-add-wide
 add-wide c = search needs
 
--- src/lib.rt:747:10
 array-read-wide : tie.Need-array-read-wide
 array-read-wide c = search needs
 
--- src/lib.rt:747:5
 wide-requires : tie.Need-wide-requires
 wide-requires c κs = search needs
 
--- src/lib.rt:742:1
 composites : List ℕ
 composites =
     0 ∷ 1 ∷ 2 ∷ 3 ∷ 4 ∷ 5 ∷ 6 ∷ 7 ∷ 8 ∷ 9 ∷ 10 ∷ 11 ∷ 12 ∷ 13 ∷ 14 ∷ 15 ∷ 16 ∷ 17 ∷ 18 ∷ 19 ∷ 20 ∷ 21 ∷ 22 ∷ 23 ∷

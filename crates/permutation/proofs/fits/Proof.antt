@@ -6,9 +6,6 @@ use Rattle.permutation.specs.Permutation.{image}
 use Rattle.permutation.proofs.Laws.{fits-far, fits-many, fits-no, fits-yes}
 use Rattle.permutation.proofs.fits.Statement.{statement}
 use Rattle.permutation.proofs.fits.Tie as tie
-use Rattle.permutation.proofs.fits.Reads as reads
-use Rattle.permutation.proofs.fits.Lts as lts
-use Rattle.permutation.proofs.image.Reads as image-reads
 
 -- a fact of each number below x, and of x, is one of each number below x + 1
 below-or-at : {P : ℕ → Type 0} {x : ℕ} → ((y : ℕ) → y < x → P y) → P x → (y : ℕ) → y < x + 1 → P y

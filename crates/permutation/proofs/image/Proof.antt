@@ -6,35 +6,25 @@ use Rattle.permutation.proofs.Laws.{image-far, image-none}
 use borrow.Author.Needs.{needs}
 use Rattle.permutation.proofs.image.Statement.{statement}
 use Rattle.permutation.proofs.image.Tie as tie
-use Rattle.permutation.proofs.image.Reads as reads
-use Rattle.permutation.proofs.image.Lts as lts
-use Rattle.permutation.proofs.wide.Reads as wide-reads
 
--- src/lib.rt:726:9
 returns : tie.Need-returns
 returns c = sym (image-far _ _ (c .if1 .taken))
 
--- src/lib.rt:729:9
 returns-2 : tie.Need-returns-2
 returns-2 c = sym (image-none _ _ (c .if2 .taken))
 
--- src/lib.rt:731:16
 mul-wide : tie.Need-mul-wide
 mul-wide c = search needs
 
--- src/lib.rt:731:16
 add-wide : tie.Need-add-wide
 add-wide c = search needs
 
--- src/lib.rt:731:10
 array-read-wide : tie.Need-array-read-wide
 array-read-wide c = search needs
 
--- src/lib.rt:731:5
 wide-requires : tie.Need-wide-requires
 wide-requires c κs = search needs
 
--- src/lib.rt:722:1
 returns-3 : tie.Need-returns-3
 unfolding image words all
 returns-3 c =

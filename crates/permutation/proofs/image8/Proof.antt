@@ -7,35 +7,25 @@ use Rattle.permutation.proofs.Laws.{image-far, image-none}
 use borrow.Author.Needs.{needs}
 use Rattle.permutation.proofs.image8.Statement.{statement}
 use Rattle.permutation.proofs.image8.Tie as tie
-use Rattle.permutation.proofs.image8.Reads as reads
-use Rattle.permutation.proofs.image8.Lts as lts
-use Rattle.permutation.proofs.wide.Reads as wide-reads
 
--- src/lib.rt:738:9
 wide-requires : tie.Need-wide-requires
 wide-requires c κs = search needs
 
--- src/lib.rt:740:9
 returns : tie.Need-returns
 returns c = let a = c .before .before .args in sym (image-far (a .q) (a .x) (omega arith))
 
--- src/lib.rt:743:9
 returns-2 : tie.Need-returns-2
 returns-2 c = sym (image-none _ _ (c .if2 .taken))
 
--- src/lib.rt:745:11
 mul-result : tie.Need-mul-result
 mul-result c = search needs
 
--- src/lib.rt:745:11
 add-result : tie.Need-add-result
 add-result c = search needs
 
--- src/lib.rt:745:5
 array-read-result : tie.Need-array-read-result
 array-read-result c = search needs
 
--- src/lib.rt:735:1
 returns-3 : tie.Need-returns-3
 unfolding image words all
 returns-3 c =

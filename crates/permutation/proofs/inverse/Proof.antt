@@ -8,24 +8,16 @@ use Rattle.permutation.proofs.Laws.{inverse-known}
 use borrow.Author.Needs.{needs}
 use Rattle.permutation.proofs.inverse.Statement.{statement}
 use Rattle.permutation.proofs.inverse.Tie as tie
-use Rattle.permutation.proofs.inverse.Reads as reads
-use Rattle.permutation.proofs.inverse.Lts as lts
-use Rattle.permutation.proofs.known.Reads as known-reads
-use Rattle.permutation.proofs.wide.Reads as wide-reads
 
--- src/lib.rt:753:9
 known-requires : tie.Need-known-requires
 known-requires c κs = search needs
 
--- src/lib.rt:754:10
 array-read-wide : tie.Need-array-read-wide
 array-read-wide c = search needs
 
--- src/lib.rt:754:5
 wide-requires : tie.Need-wide-requires
 wide-requires c κs = search needs
 
--- src/lib.rt:750:1
 inverses : List ℕ
 inverses =
     0 ∷ 1 ∷ 2 ∷ 4 ∷ 3 ∷ 5 ∷ 6 ∷ 7 ∷ 12 ∷ 18 ∷ 13 ∷ 19 ∷ 8 ∷ 10 ∷ 14 ∷ 20 ∷ 16 ∷ 22 ∷ 9 ∷ 11 ∷ 15 ∷ 21 ∷ 17 ∷ 23 ∷ []

@@ -2,14 +2,10 @@ use Rattle.permutation.proofs.Laws.{known-below, known-none}
 use native.Mathlib.Omega.{arith}
 use Rattle.permutation.proofs.known.Statement.{statement}
 use Rattle.permutation.proofs.known.Tie as tie
-use Rattle.permutation.proofs.known.Reads as reads
-use Rattle.permutation.proofs.known.Lts as lts
 
--- src/lib.rt:735:1
 returns : tie.Need-returns
 returns c = (known-below _ (c .if1 .taken), c .if1 .taken)
 
--- src/lib.rt:735:1
 returns-2 : tie.Need-returns-2
 returns-2 c = (known-none _ (c .if1 .left), omega arith)
 
