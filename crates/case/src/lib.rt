@@ -16,6 +16,8 @@ ghost use Rattle.model.specs.Bound.{mostBytes};
 ghost use Rattle.case.specs.Held.{eventOf, linkCount, link, linksOf, goodAt, linksFault, caseOf, emptyCase};
 ghost use Rattle.case.specs.Stores.{storeAt, writesAt};
 
+// Its fields and their order are those of litmus_case in include/litmus.h.
+#[repr(C)]
 pub struct Case {
     pub edition: usize,
     // how many threads, addresses and events

@@ -4,5 +4,6 @@ pub mod Found
 pub mod Given
 pub mod RoundTrip
 pub mod OrderAnswers
+pub mod NameParts
 pub mod StructClaim
 pub mod FirstBadField

@@ -11,12 +11,13 @@ ghost use Rattle.number.specs.Reader.{stop};
 ghost use Rattle.model.specs.Renumber.{fitting as fittingOf};
 ghost use Rattle.case.specs.Held.{caseOf};
 ghost use Rattle.answers.specs.Shown.{shown};
-ghost use Rattle.litmus.specs.Shown.{caseShown, partShown};
+ghost use Rattle.litmus.specs.Shown.{caseShown, partShown, noPart, judgedPart, renumberedPart, bytesOf};
 ghost use Rattle.litmus.specs.Orders.{tooMany, rule11Answer};
 pub use answers::Answer;
 use case::Case;
 
 // An answer and its case, which is `Case::empty()` where it was refused.
+#[repr(C)]
 pub struct CaseAnswer {
     pub answer: Answer,
     pub case: Case,
@@ -319,11 +320,93 @@ pub extern "C" fn litmus_name(bytes: &[u8]) -> Part
     }
 }
 
+// No part, as 0 and 0.
+fn no_part() -> Part
+    ensures { λ r. ⌜ r ≡ noPart ⌝ }
+{
+    Part { at: 0, length: 0 }
+}
+
+// Where the name beside `litmus_judge` lies.
+#[no_mangle]
+pub extern "C" fn litmus_judged_name(bytes: &[u8], model: u64) -> Part
+    ensures { λ r. ⌜ r ≡ judgedPart model (now (bytes .entry)) ⌝ }
+    ensures { λ r. ⌜ bytesOf (now (bytes .entry)) r ≡ judgedName model (now (bytes .entry)) ⌝ }
+{
+    if MODELS <= model {
+        return no_part();
+    }
+    litmus_name(bytes)
+}
+
+// Where the name beside `litmus_renumber` into a buffer of so many bytes lies.
+#[no_mangle]
+pub extern "C" fn litmus_renumbered_name(
+    bytes: &[u8],
+    threads: u64,
+    addresses: u64,
+    room: usize,
+    at: u64,
+) -> Part
+    ensures { λ s. ⌜ s ≡ renumberedPart threads addresses (now (bytes .entry)) room at ⌝ }
+    ensures { λ s. ⌜ bytesOf (now (bytes .entry)) s ≡ renumberedName threads addresses (now (bytes .entry)) room at ⌝ }
+{
+    if renumbers(bytes, threads, addresses, room, at as usize) {
+        return litmus_name(bytes);
+    }
+    no_part()
+}
+
+// The same calls on a case, which C hands over and gets by value.
+
+#[no_mangle]
+pub extern "C" fn litmus_case_read(bytes: &[u8]) -> CaseAnswer
+    ensures { λ r. ⌜ r ≡ caseShown (readRecord (now (bytes .entry))) ⌝ }
+{
+    read(bytes)
+}
+
+#[no_mangle]
+pub extern "C" fn litmus_case_write(c: Case, out: &mut [u8], at: u64) -> Answer
+    ensures { λ r. ⌜ r ≡ shown (writeCase (caseOf c) (now (out .entry)) at .answer) ⌝ }
+    ensures { λ r. ⌜ now (out .exit) ≡ writeCase (caseOf c) (now (out .entry)) at .buffer ⌝ }
+{
+    write(c, out, at as usize)
+}
+
+#[no_mangle]
+pub extern "C" fn litmus_case_judge(c: Case, model: u64) -> Answer
+    ensures { λ r. ⌜ r ≡ shown (judgeCase model (caseOf c)) ⌝ }
+{
+    judge_case(c, model)
+}
+
+#[no_mangle]
+pub extern "C" fn litmus_case_renumber(c: Case, threads: u64, addresses: u64) -> CaseAnswer
+    ensures { λ a. ⌜ a ≡ caseShown (renumberCase threads addresses (caseOf c)) ⌝ }
+{
+    renumber_case(c, threads, addresses)
+}
+
 #[no_mangle]
 pub extern "C" fn litmus_composite(first: u64, then: u64) -> u64
     ensures { λ s. ⌜ s ≡ compositeOf first then ⌝ }
 {
     composite(first, then)
+}
+
+#[no_mangle]
+pub extern "C" fn litmus_inverse(q: u64) -> u64
+    ensures { λ s. ⌜ s ≡ inverseOf q ⌝ }
+{
+    inverse(q)
+}
+
+#[no_mangle]
+pub extern "C" fn litmus_fits(q: u64, labels: usize) -> bool
+    ensures { λ b. ⌜ b ≡ fitsOf q labels ⌝ }
+{
+    fits(q, labels)
 }
 
 #[no_mangle]
@@ -346,4 +429,15 @@ pub extern "C" fn litmus_rule11_by_threes(
     ensures { λ r. ⌜ r ≡ rule11Answer threads events (now (rows .entry)) ⌝ }
 {
     rule11_by_threes(rows, threads, events)
+}
+
+#[no_mangle]
+pub extern "C" fn litmus_rule11_tests_agree(
+    rows: &[u64; Case::MOST_THREADS * Case::MOST_EVENTS],
+    threads: usize,
+    events: usize,
+) -> bool
+    ensures { λ b. ⌜ b ≡ true ⌝ }
+{
+    rule11_tests_agree(rows, threads, events)
 }
