@@ -8,11 +8,16 @@
  *
  * Any bytes, any sizes, models, permutations and places are fine: there is an answer for each.
  * A size or room of 0 is fine, but the pointer that goes with it must not be NULL. No call keeps a
- * pointer, allocates memory or has any other state; calls may run at the same time.
+ * pointer, allocates memory or has any other state; calls may run at the same time. Two calls that
+ * do must not share `out`, nor may one call's `out` be the other's record.
+ *
+ * A case is one candidate execution in a struct, litmus_case. The calls litmus_case_.. are for
+ * programs that build cases or look into them.
  */
 #ifndef LITMUS_H
 #define LITMUS_H
 
+#include <stdbool.h>
 #include <stddef.h>
 #include <stdint.h>
 
@@ -26,6 +31,23 @@ enum {
     LITMUS_EDITION_2_BYTES = 33697,
     LITMUS_RECORD_BYTES = LITMUS_EDITION_2_BYTES
 };
+
+/*
+ * The most threads, addresses, events and dependencies of a case, and the most bytes of its name.
+ */
+enum {
+    LITMUS_THREADS = 4,
+    LITMUS_ADDRESSES = 4,
+    LITMUS_EVENTS = 64,
+    LITMUS_DEPENDENCIES = 96,
+    LITMUS_NAME_BYTES = 32
+};
+
+/* The kinds of events. Edition 1 has no lwsync. */
+enum { LITMUS_LOAD = 0, LITMUS_STORE = 1, LITMUS_SYNC = 2, LITMUS_LWSYNC = 3 };
+
+/* The classes of dependencies. */
+enum { LITMUS_BY_ADDRESS = 0, LITMUS_BY_DATA = 1, LITMUS_BY_CONTROL = 2 };
 
 /* The models. */
 enum {
@@ -64,16 +86,17 @@ enum {
  *          Where several rules are broken, the lowest is given.
  * place    under 1 to 4, the byte where the faulty number starts (under 4, of a pair: its first
  *          number, of a dependency: its class; of a name that is cut short: its first byte);
- *          under 23, the first byte of the name that is not printable; otherwise 0
+ *          under 23, the first byte of the name that is not printable; otherwise, and in every
+ *          answer about a litmus_case, 0
  * length   under 0 and 11 to 18, how many bytes the record takes; otherwise 0
- * finals   of litmus_judge under 0, what each address holds at the end, and 0 for addresses that
- *          the case does not have; otherwise all 0
+ * finals   of litmus_judge and litmus_case_judge under 0, what each address holds at the end, and 0
+ *          for addresses that the case does not have; otherwise all 0
  */
 typedef struct {
     uint32_t number;
     uint64_t place;
     uint64_t length;
-    uint32_t finals[4];
+    uint32_t finals[LITMUS_ADDRESSES];
 } litmus_answer;
 
 /* A part of the bytes that were handed in: where it starts, and how many bytes it has. */
@@ -111,13 +134,100 @@ litmus_answer litmus_renumber(const uint8_t *record, size_t size, uint64_t threa
 litmus_part litmus_name(const uint8_t *record, size_t size);
 
 /*
+ * Where the name lies beside litmus_judge, and beside litmus_renumber into an out of that room: as
+ * litmus_name gives it where the call is not refused, at 0 and of length 0 where it is.
+ */
+litmus_part litmus_judged_name(const uint8_t *record, size_t size, uint64_t model);
+litmus_part litmus_renumbered_name(const uint8_t *record, size_t size, uint64_t threads,
+                                   uint64_t addresses, size_t room, uint64_t at);
+
+/*
+ * A case. Threads, addresses, events and dependencies are numbered from 0. A thread's program order
+ * is the order in which its events are listed.
+ *
+ * What stands in an array beyond its count is ignored. So are in edition 1 the dependencies and
+ * their count, the address and value of a sync or lwsync, and the bits of a row from `events` on.
+ * Two cases that differ only there are the same case. In a case that a call gives, all of it is 0.
+ */
+typedef struct {
+    size_t edition;                        /* 1 or 2 */
+    size_t threads;                        /* how many: 1 to LITMUS_THREADS */
+    size_t addresses;                      /* 1 to LITMUS_ADDRESSES */
+    size_t events;                         /* 0 to LITMUS_EVENTS */
+    uint32_t initial[LITMUS_ADDRESSES];    /* by address: what it holds at first */
+    uint8_t kind[LITMUS_EVENTS];           /* by event: LITMUS_LOAD .. LITMUS_LWSYNC */
+    uint8_t thread[LITMUS_EVENTS];         /* by event: below `threads` */
+    uint8_t address[LITMUS_EVENTS];        /* by load or store: below `addresses` */
+    uint32_t value[LITMUS_EVENTS];         /* by load or store: what it loaded or stored */
+    size_t dependencies;                   /* in edition 2, 0 to LITMUS_DEPENDENCIES */
+    /*
+     * By dependency: its class, the load that is depended on, and the event that depends on it.
+     * `from` is listed before `to` and of the same thread; `to` is a load or a store, and where the
+     * class is data or control, a store. Dependencies rise strictly: by from, then by to, then by
+     * class.
+     */
+    uint8_t dependency_class[LITMUS_DEPENDENCIES];
+    uint8_t dependency_from[LITMUS_DEPENDENCIES];
+    uint8_t dependency_to[LITMUS_DEPENDENCIES];
+    /* The stores to address x in write order, from writes[x * LITMUS_EVENTS] on, each once. */
+    uint8_t writes[LITMUS_ADDRESSES * LITMUS_EVENTS];
+    /*
+     * Bit b of rows[p * LITMUS_EVENTS + a] says that event a comes before event b in thread p's
+     * order. Nothing is added by transitivity.
+     */
+    uint64_t rows[LITMUS_THREADS * LITMUS_EVENTS];
+    uint8_t name[LITMUS_NAME_BYTES];       /* 32 to 126 each; no byte ends the name */
+    size_t name_length;                    /* 0 to LITMUS_NAME_BYTES */
+} litmus_case;
+
+/* An answer and its case, all of which is 0 where the answer is a refusal. */
+typedef struct {
+    litmus_answer answer;
+    litmus_case result;
+} litmus_case_answer;
+
+/* As litmus_read, with the case. */
+litmus_case_answer litmus_case_read(const uint8_t *record, size_t size);
+
+/*
+ * A call that is handed a case may get any numbers in it. It looks at edition, threads, addresses,
+ * events, each event, dependencies, each dependency, the write orders and name_length, in this
+ * order, and the first that may not stand there is the answer: 3 for a number outside its range, 4
+ * for a dependency or an entry of a write order. Then comes 23 for a byte of the name. The place is
+ * 0, since there are no bytes. An order is a set of pairs, in which nothing can be wrong.
+ */
+
+/*
+ * Writes the case's record into out from the byte `at` onward: 0 with its length, which
+ * LITMUS_RECORD_BYTES are room for. Checked in this order: the case (3, 4, 23), room (6). Only the
+ * record's bytes are written; under a refusal none is.
+ */
+litmus_answer litmus_case_write(litmus_case c, uint8_t *out, size_t room, uint64_t at);
+
+/*
+ * Judges the case under a model: 0 with finals and the length of its record, or 11 to 18 with that
+ * length. Checked in this order: the model (7), the case (3, 4, 23), the rules.
+ */
+litmus_answer litmus_case_judge(litmus_case c, uint64_t model);
+
+/*
+ * The case, its threads and addresses renumbered, by permutation numbers as for litmus_renumber: 0
+ * with the length of its record. Checked in this order: the case (3, 4, 23), threads (5), addresses
+ * (5).
+ */
+litmus_case_answer litmus_case_renumber(litmus_case c, uint64_t threads, uint64_t addresses);
+
+/*
  * The number of the permutation that is first one and then the other. A number above 23 counts as
  * 0, which moves nothing.
  */
 uint64_t litmus_composite(uint64_t first, uint64_t then);
 
-/* The most threads and events of a case. */
-enum { LITMUS_THREADS = 4, LITMUS_EVENTS = 64 };
+/* The number of the permutation that takes q back; 0 for a number above 23. */
+uint64_t litmus_inverse(uint64_t q);
+
+/* Whether q is a permutation number that maps the labels below `labels` onto themselves. */
+bool litmus_fits(uint64_t q, size_t labels);
 
 /*
  * Rule 11 of orders alone, without a record: 0 where the order of each of the threads is
@@ -133,6 +243,10 @@ uint32_t litmus_rule11(const uint64_t rows[LITMUS_THREADS * LITMUS_EVENTS], size
 /* The same by every three events, one after the other: slower, and proved to answer the same. */
 uint32_t litmus_rule11_by_threes(const uint64_t rows[LITMUS_THREADS * LITMUS_EVENTS],
                                  size_t threads, size_t events);
+
+/* Whether both tests answer the same: it runs both, and is proved to be true for all rows. */
+bool litmus_rule11_tests_agree(const uint64_t rows[LITMUS_THREADS * LITMUS_EVENTS],
+                               size_t threads, size_t events);
 
 #ifdef __cplusplus
 }

@@ -7,7 +7,6 @@ use ordinary::random::Random;
 use ordinary::{write, Case, Event, Order};
 
 const INPUTS: usize = 20_000;
-const HEADER: &str = include_str!("../../include/litmus.h");
 /// The rule's number.
 const RULE: u32 = 11;
 
@@ -87,9 +86,6 @@ fn both_tests_and_judging_agree_with_sets_of_pairs() {
 /// Every number of threads and events that a case may have, none included, and more.
 #[test]
 fn any_counts() {
-    assert_eq!((litmus::THREADS, litmus::EVENTS), (THREADS, EVENTS));
-    let limits = format!("LITMUS_THREADS = {THREADS}, LITMUS_EVENTS = {EVENTS}");
-    assert!(HEADER.contains(&limits));
     let none: Rows = [0; THREADS * EVENTS];
     let all: Rows = [u64::MAX; THREADS * EVENTS];
     let counts = |most: usize| (0..most + 3).chain([1 << 32, usize::MAX]);
