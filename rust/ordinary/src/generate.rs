@@ -1,10 +1,12 @@
 //! Random cases and records for the tests and the benchmark.
 
+mod calls;
 mod damage;
 mod names;
 mod program;
 mod sparse;
 
+pub use calls::{any_buffer, any_permutation};
 pub use damage::damaged;
 pub use names::{every_byte_of_a_name, printable};
 pub use sparse::{sparse, Duty};

@@ -36,9 +36,15 @@ pub fn answer(bytes: &[u8]) -> Answer {
 
 /// The name as the record's own bytes; empty when the record is refused.
 pub fn name(bytes: &[u8]) -> &[u8] {
+    let (at, length) = name_part(bytes);
+    &bytes[at..at + length]
+}
+
+/// Where the name starts and how long it is; 0 and 0 when the record is refused.
+pub fn name_part(bytes: &[u8]) -> (usize, usize) {
     match read(bytes) {
-        Ok(reading) => &bytes[reading.length - reading.case.name.len()..reading.length],
-        Err(_) => &[],
+        Ok(Reading { case, length }) => (length - case.name.len(), case.name.len()),
+        Err(_) => (0, 0),
     }
 }
 
