@@ -32,7 +32,15 @@
 //! );
 //! ```
 //!
-//! The functions ending in `_raw` take any numbers and give the library's own [`Answer`].
+//! A program that builds its cases itself uses [`Case`]. The functions ending in `_raw` take any
+//! numbers and give the library's own [`Answer`].
+
+mod answer;
+mod archive;
+mod case;
+
+pub use answer::{meaning, Answer, CaseAnswer, Finals, Part, Refusal, Rule, Verdict};
+pub use case::Case;
 
 use std::fmt;
 
@@ -47,12 +55,18 @@ pub const EDITION_2_BYTES: usize = 33_697;
 /// The most bytes of a record: a buffer of this length takes any.
 pub const RECORD_BYTES: usize = EDITION_2_BYTES;
 
-/// How many addresses an answer has final values for, as in `litmus.h`.
-pub const FINALS: usize = 4;
 /// The most threads of a case, as in `litmus.h`.
 pub const THREADS: usize = 4;
+/// The most addresses of a case, as in `litmus.h`.
+pub const ADDRESSES: usize = 4;
 /// The most events of a case, as in `litmus.h`.
 pub const EVENTS: usize = 64;
+/// The most dependencies of a case, as in `litmus.h`.
+pub const DEPENDENCIES: usize = 96;
+/// The most bytes of a name, as in `litmus.h`.
+pub const NAME_BYTES: usize = 32;
+/// How many final values an [`Answer`] has.
+pub const FINALS: usize = ADDRESSES;
 
 /// Each thread's order: bit b at `p * EVENTS + a` says that event a comes before event b in thread
 /// p's order.
@@ -76,116 +90,6 @@ impl fmt::Display for Model {
     }
 }
 
-/// What the library answers, as in `litmus.h`. Fields that do not apply are 0.
-#[repr(C)]
-#[derive(Clone, Copy, Debug, Default, PartialEq, Eq)]
-pub struct Answer {
-    /// 0, or what is wrong; [`meaning`] says it in words.
-    pub number: u32,
-    /// Under 1 to 4, the byte where the faulty number starts; under 23, the name's first byte that
-    /// is not printable.
-    pub place: u64,
-    /// Under 0 and 11 to 18, how many bytes the record takes.
-    pub length: u64,
-    /// When an execution is accepted, what each address holds at the end.
-    pub finals: [u32; FINALS],
-}
-
-/// A part of the record: where it starts, and how many bytes it has.
-#[repr(C)]
-#[derive(Clone, Copy, Debug, PartialEq, Eq)]
-pub struct Part {
-    pub at: u64,
-    pub length: u64,
-}
-
-/// What a number means, in words.
-pub fn meaning(number: u32) -> &'static str {
-    match number {
-        0 => "accepted, or done",
-        1 => "the bytes end inside a number or the name",
-        2 => "a number has too many groups, or is not in its shortest form",
-        3 => "a number is outside its range",
-        4 => "a dependency, a write order entry or a pair may not stand there",
-        5 => "not a permutation of the case's labels",
-        6 => "too little room in the buffer from the given place",
-        7 => "no such model",
-        11 => "a thread's order is not irreflexive and transitive",
-        12 => "a thread's order leaves two of its own events unordered",
-        13 => "a thread's order breaks its program order at a barrier, on one address or against a dependency",
-        14 => "a thread's order of two stores to one address is not the write order's",
-        15 => "a load does not hold the initial value, and no store to its address comes before it",
-        16 => "a load holds another value than some store to its address, does not come before it, and no other store lies between",
-        17 => "two events that a barrier orders, one before it and one after it on its thread, are not in that order for every thread",
-        18 => "two events that a barrier orders, one before it and one after a load of a store behind it, are not in that order for every thread",
-        23 => "a byte of the name is not printable ASCII",
-        _ => "no such number",
-    }
-}
-
-/// A broken rule of the model, 11 to 18: the lowest, where several are broken.
-#[derive(Clone, Copy, Debug, PartialEq, Eq)]
-pub struct Rule(pub u32);
-
-impl fmt::Display for Rule {
-    fn fmt(&self, f: &mut fmt::Formatter) -> fmt::Result {
-        write!(f, "rule {}: {}", self.0, meaning(self.0))
-    }
-}
-
-/// What judging a readable record gives.
-#[derive(Clone, Copy, Debug, PartialEq, Eq)]
-pub enum Verdict {
-    /// Every rule of the model holds: the execution is possible.
-    Accepted {
-        length: usize,
-        finals: [u32; FINALS],
-    },
-    /// A rule is broken.
-    Broken { length: usize, rule: Rule },
-}
-
-impl fmt::Display for Verdict {
-    fn fmt(&self, f: &mut fmt::Formatter) -> fmt::Result {
-        match self {
-            Verdict::Accepted { finals, .. } => {
-                let finals = finals.map(|value| value.to_string());
-                write!(f, "possible: finals {}", finals.join(" "))
-            }
-            Verdict::Broken { rule, .. } => write!(f, "not possible: {rule}"),
-        }
-    }
-}
-
-/// Why a call did nothing: 1 to 7, or 23.
-#[derive(Clone, Copy, Debug, PartialEq, Eq)]
-pub struct Refusal {
-    pub number: u32,
-    /// As in [`Answer`].
-    pub place: usize,
-}
-
-impl fmt::Display for Refusal {
-    fn fmt(&self, f: &mut fmt::Formatter) -> fmt::Result {
-        write!(f, "refused with {}: {}", self.number, meaning(self.number))?;
-        match self.number {
-            1..=4 | 23 => write!(f, " (byte {})", self.place),
-            _ => Ok(()),
-        }
-    }
-}
-
-impl std::error::Error for Refusal {}
-
-impl From<Answer> for Refusal {
-    fn from(answer: Answer) -> Refusal {
-        Refusal {
-            number: answer.number,
-            place: answer.place as usize,
-        }
-    }
-}
-
 /// How many bytes the record at the front takes.
 pub fn read(record: &[u8]) -> Result<usize, Refusal> {
     done(read_raw(record))
@@ -194,18 +98,8 @@ pub fn read(record: &[u8]) -> Result<usize, Refusal> {
 /// Judges the record at the front under a model.
 pub fn judge(record: &[u8], model: Model) -> Result<Verdict, Refusal> {
     let answer = judge_raw(record, model as u64);
-    let length = answer.length as usize;
-    match answer.number {
-        0 => Ok(Verdict::Accepted {
-            length,
-            finals: answer.finals,
-        }),
-        rule @ 11..=18 => Ok(Verdict::Broken {
-            length,
-            rule: Rule(rule),
-        }),
-        _ => Err(answer.into()),
-    }
+    let addresses = || Case::read_raw(record).case.addresses;
+    Verdict::of(answer, addresses).ok_or(answer.into())
 }
 
 /// Writes the record, its threads and addresses renumbered by two of the 24 permutations, into
@@ -222,15 +116,42 @@ pub fn renumber(
 
 /// The record's name, as a part of the record: printable ASCII, and empty if it can't be read.
 pub fn name(record: &[u8]) -> &[u8] {
-    let part = name_raw(record);
-    let at = part.at as usize;
-    &record[at..at + part.length as usize]
+    name_raw(record).of(record)
+}
+
+/// The name beside [`judge`]: empty where that is refused.
+pub fn judged_name(record: &[u8], model: Model) -> &[u8] {
+    judged_name_raw(record, model as u64).of(record)
+}
+
+/// The name beside [`renumber`] into a buffer of `room` bytes: empty where that is refused.
+pub fn renumbered_name(
+    record: &[u8],
+    threads: u64,
+    addresses: u64,
+    room: usize,
+    at: usize,
+) -> &[u8] {
+    renumbered_name_raw(record, threads, addresses, room, at as u64).of(record)
 }
 
 /// The permutation that is first one and then the other. A number above 23 moves nothing.
 pub fn composite(first: u64, then: u64) -> u64 {
     // SAFETY: the function takes any two numbers.
     unsafe { archive::litmus_composite(first, then) }
+}
+
+/// The permutation that takes `q` back. A number above 23 moves nothing.
+pub fn inverse(q: u64) -> u64 {
+    // SAFETY: the function takes any number.
+    unsafe { archive::litmus_inverse(q) }
+}
+
+/// Whether `q` is a permutation number, 0 to 23, that maps the labels below `labels` onto
+/// themselves.
+pub fn fits(q: u64, labels: usize) -> bool {
+    // SAFETY: the function takes any two numbers.
+    unsafe { archive::litmus_fits(q, labels) }
 }
 
 /// Rule 11 of orders alone: whether the order of each of the threads is irreflexive and transitive.
@@ -245,6 +166,12 @@ pub fn rule11(rows: &Rows, threads: usize, events: usize) -> Option<bool> {
 pub fn rule11_by_threes(rows: &Rows, threads: usize, events: usize) -> Option<bool> {
     // SAFETY: as in `rule11`.
     rule11_answer(unsafe { archive::litmus_rule11_by_threes(rows, threads, events) })
+}
+
+/// Whether both tests answer the same: it runs both, and is proved to be true for all rows.
+pub fn rule11_tests_agree(rows: &Rows, threads: usize, events: usize) -> bool {
+    // SAFETY: as in `rule11`.
+    unsafe { archive::litmus_rule11_tests_agree(rows, threads, events) }
 }
 
 /// 0 or 11, or else 3.
@@ -288,34 +215,28 @@ pub fn name_raw(record: &[u8]) -> Part {
     unsafe { archive::litmus_name(record.as_ptr(), record.len()) }
 }
 
+/// [`judged_name`] for any model number, as a place and a length.
+pub fn judged_name_raw(record: &[u8], model: u64) -> Part {
+    // SAFETY: as in `judge_raw`.
+    unsafe { archive::litmus_judged_name(record.as_ptr(), record.len(), model) }
+}
+
+/// [`renumbered_name`] for any place, as a place and a length.
+pub fn renumbered_name_raw(
+    record: &[u8],
+    threads: u64,
+    addresses: u64,
+    room: usize,
+    at: u64,
+) -> Part {
+    let (start, size) = (record.as_ptr(), record.len());
+    // SAFETY: as in `read_raw`; the function takes any numbers.
+    unsafe { archive::litmus_renumbered_name(start, size, threads, addresses, room, at) }
+}
+
 fn done(answer: Answer) -> Result<usize, Refusal> {
     match answer.number {
         0 => Ok(answer.length as usize),
         _ => Err(answer.into()),
-    }
-}
-
-/// The functions of `litmus.h`.
-mod archive {
-    use super::{Answer, Part, Rows};
-
-    // Not bundled, so that a program that calls none of these builds without the archive.
-    #[link(name = "litmus", kind = "static", modifiers = "-bundle")]
-    extern "C" {
-        pub fn litmus_read(record: *const u8, size: usize) -> Answer;
-        pub fn litmus_judge(record: *const u8, size: usize, model: u64) -> Answer;
-        pub fn litmus_renumber(
-            record: *const u8,
-            size: usize,
-            threads: u64,
-            addresses: u64,
-            out: *mut u8,
-            room: usize,
-            at: u64,
-        ) -> Answer;
-        pub fn litmus_name(record: *const u8, size: usize) -> Part;
-        pub fn litmus_composite(first: u64, then: u64) -> u64;
-        pub fn litmus_rule11(rows: *const Rows, threads: usize, events: usize) -> u32;
-        pub fn litmus_rule11_by_threes(rows: *const Rows, threads: usize, events: usize) -> u32;
     }
 }

@@ -50,22 +50,32 @@ fn records() {
     tally.assert_each("numbers", [0], 10);
 }
 
-#[test]
-fn rust_example() {
+/// What an example prints that is handed a file.
+fn example(name: &str, file: &Path) -> String {
     let mut cargo = Command::new(env!("CARGO"));
-    cargo.args([
-        "run",
-        "--quiet",
-        "--offline",
-        "--example",
-        "judge_one",
-        "--",
-    ]);
+    cargo.args(["run", "--quiet", "--offline", "--example", name, "--"]);
     cargo.current_dir(env!("CARGO_MANIFEST_DIR"));
+    output(cargo.arg(file))
+}
+
+const RULE_16: &str = "rule 16: a load holds another value than some store to its address, does not come before it, and no other store lies between";
+
+#[test]
+fn a_record_is_judged() {
     assert_eq!(
-        output(cargo.arg(folder().join("dekker.litmus"))),
-        "Dekker\n\
-         PPCw: possible: finals 1 1 0 0\n\
-         PPCs: not possible: rule 16: a load holds another value than some store to its address, does not come before it, and no other store lies between\n"
+        example("judge_one", &folder().join("dekker.litmus")),
+        format!("Dekker\nPPCw: possible: finals 1 1\nPPCs: not possible: {RULE_16}\n")
     );
+}
+
+#[test]
+fn a_case_is_built() {
+    let file = Path::new(env!("CARGO_TARGET_TMPDIR")).join("built.litmus");
+    assert_eq!(
+        example("build_one", &file),
+        format!("PPCw: not possible: {RULE_16}\nPPCs: not possible: {RULE_16}\n")
+    );
+    let expected = fs::read(folder().join("hoist-dependency.litmus"));
+    let built = fs::read(file);
+    assert_eq!(built.expect("a record"), expected.expect("a record"));
 }

@@ -14,10 +14,19 @@ use ordinary::{read, rows, write};
 
 const INPUTS: usize = 200_000;
 
+/// Judges with both, compares answers and names, and hands back the number.
 fn compare(record: &[u8], model: u64) -> u32 {
     let expected = judge(record, model);
     let answer = plain(litmus::judge_raw(record, model));
     assert_eq!(answer, expected, "{record:?} under {model}");
+    let named = if model == PPCW || model == PPCS {
+        record
+    } else {
+        &[]
+    };
+    let part = litmus::judged_name_raw(record, model);
+    let part = (part.at as usize, part.length as usize);
+    assert_eq!(part, read::name_part(named), "{record:?} under {model}");
     expected.number
 }
 

@@ -1,6 +1,6 @@
 //! Rule 11 of orders alone: both tests agree with plain sets of pairs, and with what judging says.
 
-use litmus::{judge_raw, rule11, rule11_by_threes, Rows};
+use litmus::{judge_raw, rule11, rule11_by_threes, rule11_tests_agree, Rows};
 use ordinary::judge::{verdict, PPCS};
 use ordinary::limits::{EVENTS, THREADS};
 use ordinary::random::Random;
@@ -75,6 +75,7 @@ fn both_tests_and_judging_agree_with_sets_of_pairs() {
         let (threads, count) = (case.threads(), case.events.len());
         assert_eq!(rule11(&rows, threads, count), Some(holds), "{case:?}");
         assert_eq!(rule11_by_threes(&rows, threads, count), Some(holds));
+        assert!(rule11_tests_agree(&rows, threads, count), "{case:?}");
         let judged = judge_raw(&write::record(&case), PPCS);
         assert_eq!(judged.number != RULE, holds, "{case:?}");
         broken += usize::from(!holds);
@@ -92,6 +93,9 @@ fn any_counts() {
     for threads in counts(THREADS) {
         for events in counts(EVENTS) {
             let fits = threads <= THREADS && events <= EVENTS;
+            for rows in [&none, &all] {
+                assert!(rule11_tests_agree(rows, threads, events));
+            }
             for test in [rule11, rule11_by_threes] {
                 assert_eq!(test(&none, threads, events), fits.then_some(true));
                 let holds = threads == 0 || events == 0;

@@ -4,10 +4,10 @@ mod common;
 
 use common::plain;
 use ordinary::answer::{ENDS, MODEL, OF_READING, PERMUTATION, ROOM, UNPRINTABLE};
-use ordinary::generate;
+use ordinary::generate::{self, any_buffer, any_permutation};
 use ordinary::judge::{judge, RULES};
-use ordinary::limits::{ADDRESSES, EDITIONS, SECOND};
-use ordinary::permutation::{composite, fits, images, COUNT};
+use ordinary::limits::{ADDRESSES, EDITIONS, LABELS, SECOND};
+use ordinary::permutation::{composite, fits, images, inverse, COUNT};
 use ordinary::random::Random;
 use ordinary::renumber::{moved, relabel, renumber};
 use ordinary::tally::{edition_name, stated_edition, Tally};
@@ -129,30 +129,6 @@ impl List {
     }
 }
 
-/// Half of the time one that fits.
-fn any_permutation(random: &mut Random, labels: usize) -> u64 {
-    let fitting: Vec<u64> = (0..COUNT).filter(|&q| fits(q, labels)).collect();
-    match random.below(8) {
-        0..=5 => random.pick(&fitting),
-        6 => random.below(COUNT as usize + 2) as u64,
-        _ => random.any_number(),
-    }
-}
-
-/// A buffer of any length and content, and a place, most often with enough room.
-fn any_buffer(random: &mut Random, length: usize) -> (Vec<u8>, u64) {
-    let room = match random.below(4) {
-        0 => random.below(length + 4),
-        _ => length + random.below(20),
-    };
-    let at = match random.below(5) {
-        0 => random.any_number(),
-        1 => random.below(room + 2) as u64,
-        _ => random.below(room.saturating_sub(length) + 1) as u64,
-    };
-    (random.bytes(room), at)
-}
-
 #[test]
 fn lists_of_calls() {
     let mut random = Random::new(30);
@@ -191,7 +167,7 @@ fn headings(edition: u32) -> [&'static str; 2] {
     }
 }
 
-/// Renumbers with both, compares answers and whole buffers, and hands back the number.
+/// Renumbers with both, compares answers, whole buffers and names, and hands back the number.
 fn compare(record: &[u8], q: u64, r: u64, buffer: &[u8], at: u64) -> u32 {
     let (mut out, mut expected) = (buffer.to_vec(), buffer.to_vec());
     let answer = renumber(record, q, r, &mut expected, at as usize);
@@ -199,7 +175,18 @@ fn compare(record: &[u8], q: u64, r: u64, buffer: &[u8], at: u64) -> u32 {
     let same = (found, &out) == (answer, &expected);
     assert!(same, "{record:?} by {q} and {r} from {at}: {found:?}");
     assert!(answer.number == 0 || out == buffer, "{record:?}");
+    compare_names(record, q, r, buffer.len(), at, answer.number == 0);
     answer.number
+}
+
+/// The name beside a renumbering is the record's where that is done.
+fn compare_names(record: &[u8], q: u64, r: u64, room: usize, at: u64, done: bool) {
+    let named = if done { record } else { &[] };
+    let name = litmus::renumbered_name(record, q, r, room, at as usize);
+    assert_eq!(name, read::name(named), "{record:?} by {q} and {r}");
+    let part = litmus::renumbered_name_raw(record, q, r, room, at);
+    let part = (part.at as usize, part.length as usize);
+    assert_eq!(part, read::name_part(named), "{record:?} by {q} and {r}");
 }
 
 /// Records as they come, damaged ones too.
@@ -257,12 +244,34 @@ fn every_byte_of_a_name() {
     }
 }
 
+/// Permutation numbers and others.
+fn numbers() -> impl Iterator<Item = u64> {
+    (0..COUNT + 2).chain([1 << 32, u64::MAX - COUNT, u64::MAX])
+}
+
 #[test]
-fn composites() {
-    let numbers: Vec<u64> = (0..COUNT + 2).chain([1 << 32, u64::MAX]).collect();
-    for &q in &numbers {
-        for &r in &numbers {
+fn composites_and_inverses() {
+    for q in numbers() {
+        for r in numbers() {
             assert_eq!(litmus::composite(q, r), composite(q, r), "{q} then {r}");
         }
+        let back = litmus::inverse(q);
+        assert_eq!(back, inverse(q), "{q}");
+        assert_eq!(litmus::composite(q, back), 0, "{q}");
     }
+}
+
+/// Of any number of labels, the greatest too.
+#[test]
+fn fitting() {
+    let mut fitting = 0;
+    for q in numbers() {
+        for labels in (0..LABELS + 3).chain([1 << 32, usize::MAX - 1, usize::MAX]) {
+            let expected = fits(q, labels);
+            assert_eq!(litmus::fits(q, labels), expected, "{q} of {labels}");
+            fitting += usize::from(expected);
+        }
+    }
+    // With no label or all of them 24 permutations fit, with 1 and 3 labels 6, with 2 labels 4.
+    assert_eq!(fitting, 24 * 7 + 2 * 6 + 4);
 }

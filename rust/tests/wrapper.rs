@@ -1,12 +1,14 @@
 //! The wrapper's own types say what the library's answers say.
 
 use litmus::{judge, judge_raw, meaning, name, read, read_raw, renumber};
-use litmus::{Model, Refusal, Rule, Verdict};
+use litmus::{Answer, Case, CaseAnswer, Model, Refusal, Rule, Verdict};
 use ordinary::answer::{MODEL, UNPRINTABLE};
 use ordinary::generate;
 use ordinary::judge::RULES;
 use ordinary::limits::{most_bytes, EDITIONS, FIRST, SECOND};
+use ordinary::limits::{ADDRESSES, DEPENDENCIES, EVENTS, NAME, THREADS};
 use ordinary::random::Random;
+use ordinary::{Class, Kind};
 use std::collections::BTreeSet;
 
 const HEADER: &str = include_str!("../../include/litmus.h");
@@ -43,6 +45,40 @@ fn limits_of_records() {
     assert!(HEADER.contains("LITMUS_RECORD_BYTES = LITMUS_EDITION_2_BYTES\n"));
 }
 
+/// Here and in the header.
+#[test]
+fn limits_of_cases() {
+    for (name, most, ours) in [
+        ("THREADS", THREADS, litmus::THREADS),
+        ("ADDRESSES", ADDRESSES, litmus::ADDRESSES),
+        ("EVENTS", EVENTS, litmus::EVENTS),
+        ("DEPENDENCIES", DEPENDENCIES, litmus::DEPENDENCIES),
+        ("NAME_BYTES", NAME, litmus::NAME_BYTES),
+    ] {
+        assert_eq!(ours, most, "{name}");
+        let line = format!("    LITMUS_{name} = {most}");
+        assert!(HEADER.contains(&line), "{name}");
+    }
+}
+
+/// Here and in the header.
+#[test]
+fn kinds_and_classes() {
+    for (name, number, ours) in [
+        ("LOAD", Kind::Load as u8, Case::LOAD),
+        ("STORE", Kind::Store as u8, Case::STORE),
+        ("SYNC", Kind::Sync as u8, Case::SYNC),
+        ("LWSYNC", Kind::Lwsync as u8, Case::LWSYNC),
+        ("BY_ADDRESS", Class::Address as u8, Case::BY_ADDRESS),
+        ("BY_DATA", Class::Data as u8, Case::BY_DATA),
+        ("BY_CONTROL", Class::Control as u8, Case::BY_CONTROL),
+    ] {
+        assert_eq!(ours, number, "{name}");
+        let stated = format!(" LITMUS_{name} = {number}");
+        assert!(HEADER.contains(&stated), "{name}");
+    }
+}
+
 /// A buffer of the most bytes takes any record.
 #[test]
 fn the_greatest_record_fits() {
@@ -54,30 +90,74 @@ fn the_greatest_record_fits() {
     }
 }
 
+/// A verdict in the library's own type.
+fn untyped(typed: Result<Verdict, Refusal>) -> Answer {
+    let mut answer = Answer::default();
+    match typed {
+        Ok(Verdict::Accepted { length, finals }) => {
+            answer.length = length as u64;
+            answer.finals[..finals.len()].copy_from_slice(&finals);
+        }
+        Ok(Verdict::Broken { length, rule }) => {
+            assert!(RULES.contains(&rule.0));
+            (answer.number, answer.length) = (rule.0, length as u64);
+        }
+        Err(Refusal { number, place }) => {
+            (answer.number, answer.place) = (number, place.unwrap_or(0) as u64);
+        }
+    }
+    answer
+}
+
 #[test]
 fn typed_answers_are_the_raw_ones() {
     let mut random = Random::new(50);
     for _ in 0..5_000 {
         let record = generate::any_record(&mut random);
+        let CaseAnswer { answer: raw, case } = Case::read_raw(&record);
         for model in [Model::PpcW, Model::PpcS] {
-            let raw = judge_raw(&record, model as u64);
-            let (number, place, length, finals) = match judge(&record, model) {
-                Ok(Verdict::Accepted { length, finals }) => (0, 0, length, finals),
-                Ok(Verdict::Broken { length, rule }) => {
-                    assert!(RULES.contains(&rule.0));
-                    (rule.0, 0, length, Default::default())
-                }
-                Err(refusal) => (refusal.number, refusal.place, 0, Default::default()),
-            };
-            assert_eq!((raw.number, raw.finals), (number, finals));
-            assert_eq!((raw.place, raw.length), (place as u64, length as u64));
+            let judged = judge(&record, model);
+            assert_eq!(untyped(judged), judge_raw(&record, model as u64));
+            if let Ok(Verdict::Accepted { finals, .. }) = judged {
+                assert_eq!(finals.len(), case.addresses);
+            }
+            let of_case = case.judge(model);
+            assert_eq!(untyped(of_case), case.judge_raw(model as u64));
+            assert!(raw.number != 0 || of_case == judged);
         }
-        let raw = read_raw(&record);
+        assert_eq!(read_raw(&record), raw);
         match read(&record) {
             Ok(length) => assert_eq!((raw.number, raw.length), (0, length as u64)),
             Err(refusal) => assert_eq!(refusal, raw.into()),
         }
+        match Case::read(&record) {
+            Ok(same) => assert!(raw.number == 0 && same == case),
+            Err(refusal) => assert_eq!(refusal, raw.into()),
+        }
     }
+}
+
+/// A case that was read is written and renumbered as its record is.
+#[test]
+fn cases_are_written_and_renumbered() {
+    let mut out = [9; 24];
+    let case = Case::read(SMALL).expect("readable");
+    assert_eq!(case.record().as_deref(), Ok(SMALL));
+    assert_eq!(case.write(&mut out, 2), Ok(SMALL.len()));
+    assert_eq!(out, *[&[9; 2], SMALL, &[9; 3]].concat());
+    let refused = |number| Refusal {
+        number,
+        place: None,
+    };
+    assert_eq!(case.write(&mut out, 6), Err(refused(6)));
+    assert_eq!(case.renumber(0, 1), Ok(case));
+    assert_eq!(case.renumber(6, 0), Err(refused(5)));
+    let faulty = Case { threads: 0, ..case };
+    assert_eq!(faulty.write(&mut out, 6), Err(refused(3)));
+    assert_eq!(faulty.record(), Err(refused(3)));
+    assert_eq!(faulty.renumber(6, 0), Err(refused(3)));
+    assert_eq!(faulty.judge(Model::PpcW), Err(refused(3)));
+    assert_eq!(out, *[&[9; 2], SMALL, &[9; 3]].concat());
 }
 
 #[test]
@@ -85,7 +165,12 @@ fn renumbers_into_a_buffer() {
     let mut out = [9; 24];
     assert_eq!(renumber(SMALL, 0, 0, &mut out, 2), Ok(SMALL.len()));
     assert_eq!(out, *[&[9; 2], SMALL, &[9; 3]].concat());
-    let refused = |number| Err(Refusal { number, place: 0 });
+    let refused = |number| {
+        Err(Refusal {
+            number,
+            place: None,
+        })
+    };
     assert_eq!(renumber(SMALL, 6, 0, &mut out, 2), refused(5));
     assert_eq!(renumber(SMALL, 0, 0, &mut out, 6), refused(6));
 }
@@ -95,8 +180,10 @@ fn an_unprintable_name_is_refused() {
     let mut record = SMALL.to_vec();
     let place = record.len() - 1;
     record[place] = b'\n';
-    let number = UNPRINTABLE;
-    let refusal = Refusal { number, place };
+    let refusal = Refusal {
+        number: UNPRINTABLE,
+        place: Some(place),
+    };
     assert_eq!(read(&record), Err(refusal));
     for model in [Model::PpcW, Model::PpcS] {
         assert_eq!(judge(&record, model), Err(refusal));
@@ -110,18 +197,36 @@ fn an_unprintable_name_is_refused() {
 #[test]
 fn texts() {
     for (number, place, text) in [
-        (3, 4, "3: a number is outside its range (byte 4)"),
-        (7, 0, "7: no such model"),
+        (3, Some(0), "3: a number is outside its range (byte 0)"),
+        (3, None, "3: a number is outside its range"),
+        (7, None, "7: no such model"),
         (
             23,
-            18,
+            Some(18),
             "23: a byte of the name is not printable ASCII (byte 18)",
         ),
     ] {
         let refusal = Refusal { number, place };
         assert_eq!(refusal.to_string(), format!("refused with {text}"));
     }
-    let verdict = judge(SMALL, Model::PpcW).expect("readable");
-    assert_eq!(verdict.to_string(), "possible: finals 1 0 0 0");
     assert!(Rule(14).to_string().starts_with("rule 14: "));
+}
+
+/// As many as the case has addresses.
+#[test]
+fn finals_are_printed() {
+    let mut case = Case {
+        edition: litmus::EDITION_1.into(),
+        threads: 1,
+        initial: [7, 0, 0, 9],
+        ..Case::empty()
+    };
+    for (addresses, finals) in [(1, "7"), (2, "7 0"), (3, "7 0 0"), (4, "7 0 0 9")] {
+        case.addresses = addresses;
+        let record = case.record().expect("without fault");
+        for verdict in [case.judge(Model::PpcW), judge(&record, Model::PpcS)] {
+            let text = verdict.expect("without fault").to_string();
+            assert_eq!(text, format!("possible: finals {finals}"));
+        }
+    }
 }

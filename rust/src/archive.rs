@@ -1,0 +1,40 @@
+//! The functions of `litmus.h`.
+
+use crate::{Answer, Case, CaseAnswer, Part, Rows};
+
+// Not bundled, so that the wrapper itself, and a program that calls none of these, builds without
+// the archive.
+#[link(name = "litmus", kind = "static", modifiers = "-bundle")]
+extern "C" {
+    pub fn litmus_read(record: *const u8, size: usize) -> Answer;
+    pub fn litmus_judge(record: *const u8, size: usize, model: u64) -> Answer;
+    pub fn litmus_renumber(
+        record: *const u8,
+        size: usize,
+        threads: u64,
+        addresses: u64,
+        out: *mut u8,
+        room: usize,
+        at: u64,
+    ) -> Answer;
+    pub fn litmus_name(record: *const u8, size: usize) -> Part;
+    pub fn litmus_judged_name(record: *const u8, size: usize, model: u64) -> Part;
+    pub fn litmus_renumbered_name(
+        record: *const u8,
+        size: usize,
+        threads: u64,
+        addresses: u64,
+        room: usize,
+        at: u64,
+    ) -> Part;
+    pub fn litmus_case_read(record: *const u8, size: usize) -> CaseAnswer;
+    pub fn litmus_case_write(c: Case, out: *mut u8, room: usize, at: u64) -> Answer;
+    pub fn litmus_case_judge(c: Case, model: u64) -> Answer;
+    pub fn litmus_case_renumber(c: Case, threads: u64, addresses: u64) -> CaseAnswer;
+    pub fn litmus_composite(first: u64, then: u64) -> u64;
+    pub fn litmus_inverse(q: u64) -> u64;
+    pub fn litmus_fits(q: u64, labels: usize) -> bool;
+    pub fn litmus_rule11(rows: *const Rows, threads: usize, events: usize) -> u32;
+    pub fn litmus_rule11_by_threes(rows: *const Rows, threads: usize, events: usize) -> u32;
+    pub fn litmus_rule11_tests_agree(rows: *const Rows, threads: usize, events: usize) -> bool;
+}
