@@ -23,19 +23,25 @@ fn record(words: &[&Path], text: &str) -> Output {
     child.wait_with_output().expect("it ends")
 }
 
-/// One of each edition.
+/// All of them.
 #[test]
 fn makes_the_examples() {
-    for name in ["dekker", "hoist-dependency"] {
+    let table = fs::read_to_string(example("answers.txt")).expect("a table");
+    let lines = table.lines().filter(|line| !line.starts_with('#'));
+    let names = lines.filter_map(|line| line.split_whitespace().next());
+    let mut editions = [0; 2];
+    for name in names {
         let expected = fs::read(example(&format!("{name}.litmus"))).expect("an example");
         let text = example(&format!("{name}.txt"));
-        assert_eq!(record(&[&text], "").stdout, expected);
+        assert_eq!(record(&[&text], "").stdout, expected, "{name}");
         let source = fs::read_to_string(&text).expect("a text");
-        assert_eq!(record(&[], &source).stdout, expected);
+        assert_eq!(record(&[], &source).stdout, expected, "{name}");
         let target = Path::new(env!("CARGO_TARGET_TMPDIR")).join("made.litmus");
         assert!(record(&[&text, &target], "").status.success());
-        assert_eq!(fs::read(target).expect("it was made"), expected);
+        assert_eq!(fs::read(target).expect("it was made"), expected, "{name}");
+        editions[usize::from(expected[0]) - 1] += 1;
     }
+    assert!(editions.iter().all(|&count| count > 4), "{editions:?}");
 }
 
 #[test]

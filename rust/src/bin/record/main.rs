@@ -1,5 +1,8 @@
-//! Makes a record out of a short readable text.
+//! Makes a record out of a short readable text, by the proved writer.
 
+mod built;
+
+use built::built;
 use std::io::{self, Read, Write};
 use std::process::ExitCode;
 use std::{env, fs};
@@ -43,7 +46,8 @@ fn make(source: &str, target: Option<&str>) -> Result<(), String> {
     };
     let text = text_of(source).map_err(|fault| format!("{shown}: {fault}"))?;
     let case = ordinary::text::parse(&text).map_err(|fault| format!("{shown}: {fault}"))?;
-    let record = ordinary::write::record(&case);
+    let record = built(&case).record();
+    let record = record.map_err(|refusal| format!("{shown}: {refusal}"))?;
     let written = match target {
         Some(file) => fs::write(file, record),
         None => io::stdout().write_all(&record),
