@@ -1,31 +1,44 @@
-//! The C example, compiled with `cc` against the header and the archive.
+//! The C examples, compiled against the header and the archive, and how C lays out a case.
 
+use litmus::{Case, CaseAnswer};
 use std::fs;
+use std::mem::{offset_of, size_of};
 use std::path::{Path, PathBuf};
 use std::process::{Command, Output};
+
+const C: &[&str] = &["cc", "-std=c99"];
+const OPTIMISED_C: &[&str] = &["cc", "-std=c99", "-O2"];
+const CPP: &[&str] = &["g++", "-x", "c++"];
 
 fn root() -> PathBuf {
     Path::new(env!("CARGO_MANIFEST_DIR")).join("..")
 }
 
-fn compiled() -> PathBuf {
-    let program = Path::new(env!("CARGO_TARGET_TMPDIR")).join("c_example");
-    let status = Command::new("cc")
-        .args(["-std=c99", "-Wall", "-Wextra", "-Werror", "-I"])
+fn temporary(name: &str) -> PathBuf {
+    Path::new(env!("CARGO_TARGET_TMPDIR")).join(name)
+}
+
+/// The program that a compiler makes of a source.
+fn compiled(compiler: &[&str], source: &Path, name: &str) -> PathBuf {
+    let program = temporary(name);
+    let status = Command::new(compiler[0])
+        .args(&compiler[1..])
+        .args(["-Wall", "-Wextra", "-Werror", "-I"])
         .arg(root().join("include"))
-        .arg(root().join("examples/c/example.c"))
+        .arg(source)
+        .args(["-x", "none"])
         .arg(root().join("target/staticlib/liblitmus.a"))
         .arg("-o")
         .arg(&program)
         .status();
-    assert!(status.expect("cc starts").success());
+    assert!(status.expect("the compiler starts").success());
     program
 }
 
 /// Runs it on a file in `examples/`, or one with a whole path.
-fn run(program: &Path, record: &str) -> Output {
+fn run(program: &Path, file: impl AsRef<Path>) -> Output {
     let mut command = Command::new(program);
-    command.arg(root().join("examples").join(record));
+    command.arg(root().join("examples").join(file));
     command.output().expect("the example starts")
 }
 
@@ -40,7 +53,7 @@ fn unprintable() -> &'static str {
 
 #[test]
 fn prints_what_the_library_answers() {
-    let program = compiled();
+    let program = compiled(C, &root().join("examples/c/example.c"), "c_example");
     let expected = [
         (
             "dekker.litmus",
@@ -73,6 +86,64 @@ fn prints_what_the_library_answers() {
         assert_eq!(String::from_utf8_lossy(&output.stdout), lines, "{record}");
     }
     assert!(!run(&program, "no such file").status.success());
+}
+
+/// The case that C builds is judged and written as the example of its name is.
+fn builds_a_case(compiler: &[&str], name: &str) {
+    let program = compiled(compiler, &root().join("examples/c/case.c"), name);
+    let file = temporary(&format!("{name}.litmus"));
+    let output = run(&program, &file);
+    assert!(output.status.success());
+    assert_eq!(
+        String::from_utf8_lossy(&output.stdout),
+        "PPCw: possible, finals 1 1\nPPCs: not possible, rule 16\n77 bytes\n"
+    );
+    let example = fs::read(root().join("examples/dekker.litmus"));
+    let written = fs::read(file);
+    assert_eq!(written.expect("a record"), example.expect("a record"));
+    assert!(!run(&program, "no such folder/file").status.success());
+}
+
+#[test]
+fn c_builds_a_case() {
+    builds_a_case(C, "c_case");
+    builds_a_case(OPTIMISED_C, "c_case_optimised");
+}
+
+#[test]
+fn cpp_builds_a_case() {
+    match Command::new(CPP[0]).arg("--version").output() {
+        Ok(_) => builds_a_case(CPP, "cpp_case"),
+        Err(_) => println!("there is no {}", CPP[0]),
+    }
+}
+
+/// Every field of a case lies in C where it lies in Rust.
+#[test]
+fn cases_lie_alike() {
+    let mut places = vec![size_of::<Case>(), size_of::<CaseAnswer>()];
+    let mut lines = "at(sizeof(litmus_case));\nat(sizeof(litmus_case_answer));\n".to_string();
+    macro_rules! field {
+        ($($field:ident)*) => { $(
+            places.push(offset_of!(Case, $field));
+            lines += concat!("at(offsetof(litmus_case, ", stringify!($field), "));\n");
+        )* };
+    }
+    field!(edition threads addresses events initial kind thread address value dependencies);
+    field!(dependency_class dependency_from dependency_to writes rows name name_length);
+    places.push(offset_of!(CaseAnswer, case));
+    lines += "at(offsetof(litmus_case_answer, result));\n";
+    let source = temporary("layout.c");
+    let text = format!(
+        "#include \"litmus.h\"\n#include <stdio.h>\n\
+         static void at(size_t place) {{ printf(\"%lu\\n\", (unsigned long)place); }}\n\
+         int main(void) {{\n{lines}return 0;\n}}\n"
+    );
+    fs::write(&source, text).expect("it is written");
+    let program = compiled(C, &source, "layout");
+    let output = Command::new(program).output().expect("it starts");
+    let expected: String = places.iter().map(|place| format!("{place}\n")).collect();
+    assert_eq!(String::from_utf8_lossy(&output.stdout), expected);
 }
 
 /// The header alone, in C++.
