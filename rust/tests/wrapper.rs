@@ -1,6 +1,6 @@
 //! The wrapper's own types say what the library's answers say.
 
-use litmus::{judge, judge_raw, meaning, name, read, read_raw, renumber};
+use litmus::{judge, judge_raw, judged_name, meaning, name, read, read_raw, renumber};
 use litmus::{Answer, Case, CaseAnswer, Model, Refusal, Rule, Verdict};
 use ordinary::answer::{MODEL, UNPRINTABLE};
 use ordinary::generate;
@@ -118,6 +118,7 @@ fn typed_answers_are_the_raw_ones() {
         for model in [Model::PpcW, Model::PpcS] {
             let judged = judge(&record, model);
             assert_eq!(untyped(judged), judge_raw(&record, model as u64));
+            assert_eq!(judged_name(&record, model), name(&record));
             if let Ok(Verdict::Accepted { finals, .. }) = judged {
                 assert_eq!(finals.len(), case.addresses);
             }
