@@ -19,4 +19,5 @@ pub mod Corollaries
 pub mod RoundTrip
 pub mod FirstAnswers
 pub mod AnyNames
+pub mod Faulty
 pub mod FirstBadField

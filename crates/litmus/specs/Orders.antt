@@ -35,6 +35,6 @@ ordersAlone n k rows = record {
 abbrev pub tooMany : (n k : ℕ) → Bool
 tooMany n k = ltb mostThreads n || ltb mostEvents k
 
--- 3 where a count is outside its range, 11 where the model's rule 11 is broken, else 0
+-- 3 for more threads or events than a case may have, 11 where the model's rule 11 is broken, else 0; no threads, or no events, are 0
 unfoldable pub rule11Answer : (n k : ℕ) (rows : List ℕ) → ℕ
 rule11Answer n k rows = cond (tooMany n k) 3 (orElse (rule11 (caseOf (ordersAlone n k rows))) 11 0)

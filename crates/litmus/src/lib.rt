@@ -30,13 +30,13 @@ pub struct Part {
     pub length: usize,
 }
 
-// The numbers of a model that is none, of a permutation that does not fit, of a count outside its range and of a broken rule
-// 11, and how many models there are.
+// The numbers of a model that is none, of a permutation that does not fit, of a count above its most and of a broken rule 11, and
+// how many models there are.
 const NO_MODEL: u8 = 7;
 
 const NO_FIT: u8 = 5;
 
-const OUT_OF_RANGE: u32 = 3;
+const TOO_MANY: u32 = 3;
 
 const NOT_TRANSITIVE: u32 = 11;
 
@@ -227,7 +227,7 @@ pub fn rule11(
     ensures { λ r. ⌜ r ≡ rule11Answer threads events (now (rows .entry)) ⌝ }
 {
     if too_many(threads, events) {
-        return OUT_OF_RANGE;
+        return TOO_MANY;
     }
     rule11_number(orders::rule11(rows, rows, threads, events))
 }
@@ -241,7 +241,7 @@ pub fn rule11_by_threes(
     ensures { λ r. ⌜ r ≡ rule11Answer threads events (now (rows .entry)) ⌝ }
 {
     if too_many(threads, events) {
-        return OUT_OF_RANGE;
+        return TOO_MANY;
     }
     rule11_number(orders::rule11_by_threes(rows, rows, threads, events))
 }
