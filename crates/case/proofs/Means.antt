@@ -16,7 +16,7 @@ use Rattle.model.specs.Case.{Event, Dependency, noEvent, store, bare, printable
 use Rattle.model.specs.Rules.{orElse}
 use Rattle.model.specs.Record.{member, storeTo}
 use Rattle.model.specs.Fault.{eventGood, firstFault, dependencyFault, writeFault, writesFault, nameFault, fault}
-use Rattle.laws.proofs.AnyNames.{else-first}
+use Rattle.model.proofs.Faultless.{else-first}
 use Rattle.case.specs.declared.Case.{Case as Held}
 use Rattle.case.specs.Held.{eventOf, eventsOf, linkCount, linksOf, goodAt, linksFault, caseOf}
 use Rattle.case.specs.Stores.{storeAt, writesAt}

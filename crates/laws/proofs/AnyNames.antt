@@ -2,7 +2,7 @@
 -- but for a name with a byte that is not printable. A case whose name alone is at fault is refused with 23, read or handed.
 -- Each definition that it changed stands here in its text before that, with `any` before its name; the others are cited.
 -- Assumes nothing.
-use Prim.Native.Nat.{ℕ, zero, suc, _+_, _-_, _≤_}
+use Prim.Native.Nat.{ℕ, _+_, _-_, _≤_}
 use native.Mathlib.Nat.{zero-add}
 use native.Mathlib.Omega.{arith}
 use mathlib.Core.Path.{_≡_, refl, sym, ap, _∙_, subst}
@@ -23,8 +23,10 @@ use Rattle.model.specs.Written.{recordOf}
 use Rattle.model.specs.Fault.{eventGood, firstFault, dependencyFault, writesFault, nameFault, fault}
 use Rattle.model.specs.Answers.{handed}
 use Rattle.model.specs.Fits.{Fits}
-use Rattle.model.proofs.Faultless.{faultless}
-use Rattle.laws.proofs.ReadBack.{reads-bytes, restBytes, restOf, parted, reads-writes, reads-orders, reads-head, reads-listing, reads-links}
+use Rattle.model.proofs.Faultless.{faultless, else-first, first-first}
+use Rattle.laws.proofs.Names.{reads-bytes}
+use Rattle.laws.proofs.Parts.{restBytes, restOf, parted}
+use Rattle.laws.proofs.ReadBack.{reads-writes, reads-orders, reads-head, reads-listing, reads-links}
 
 -- ---- what was: reading
 
@@ -137,14 +139,6 @@ unfolding read
 read-but-names s = reads-but-names s 0
 
 -- ---- a case handed without bytes
-
-pub else-first : (t : Bool) (x y : ℕ) → orElse t 3 (firstFault x y) ≡ firstFault (orElse t 3 x) y
-else-first true x y = refl
-else-first false x y = refl
-
-first-first : (x y z : ℕ) → firstFault x (firstFault y z) ≡ firstFault (firstFault x y) z
-first-first zero y z = refl
-first-first (suc x) y z = refl
 
 -- as before, and then 23
 pub faults-but-names : (c : Case) → fault c ≡ firstFault (anyFault c) (orElse (every printable (c .name)) 23 0)

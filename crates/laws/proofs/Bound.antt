@@ -25,7 +25,8 @@ use Rattle.model.specs.Fits.{EventFits, DependenciesFit, WriteFits, WritesFit, 
 use Rattle.model.proofs.WriteOrders.{WritesFrom, writes-from}
 use Rattle.model.proofs.Faultless.{least-first, least-next}
 use Rattle.laws.proofs.Names.{printable-bytes}
-use Rattle.laws.proofs.ReadBack.{kinds-most, Rising, rising-rows, few-pairs}
+use Rattle.laws.proofs.Parts.{kinds-most}
+use Rattle.laws.proofs.ReadOrder.{Rising, rising-rows, few-pairs}
 
 -- ---- a number
 

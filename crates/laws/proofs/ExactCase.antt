@@ -20,7 +20,8 @@ use Rattle.model.specs.Case.{Case, Dependency, mostKind, bare, mostClass, print
 use Rattle.model.specs.Record.{event, dependency, dependencyGood, dependencyRank, leastAfter, risingDependency, risingDependencies, dependencies, member, storeTo, unlisted, writeOrder, nextWriteOrder, Head, head, Listing, listing, Rest, rest, case, read}
 use Rattle.model.specs.Written.{eventBytes, dependencyBytes, dependenciesBytes, recordOf}
 use Rattle.model.specs.Fits.{EventFits, DependencyFits, DependenciesFit, WriteFits, WritesFit, RowsFit, Fits}
-use Rattle.laws.proofs.ReadBack.{headBytes, listingBytes, restBytes, parted, read-back}
+use Rattle.laws.proofs.Parts.{headBytes, listingBytes, restBytes, parted}
+use Rattle.laws.proofs.ReadBack.{read-back}
 use Rattle.laws.proofs.Exact.{Refused, exact-text, told}
 use Rattle.laws.proofs.ExactOrder.{exact-order}
 

@@ -23,7 +23,7 @@ use Rattle.codec.proofs.Exact.{Exact, As, exact-give, exact-then, exact-bind, e
 use Rattle.model.specs.Record.{Pair, pair, rank, risingPair, Rows, noPairs, withPair, nextPair, order}
 use Rattle.model.specs.Written.{pairBytes, rowPairs, rowsPairs, orderBytes}
 use Rattle.model.specs.Fits.{RowsFit}
-use Rattle.laws.proofs.ReadBack.{Rising, putRows, folded-rows}
+use Rattle.laws.proofs.ReadOrder.{Rising, putRows, folded-rows}
 use Rattle.laws.proofs.Exact.{Refused, told}
 
 -- ---- a row with one pair more

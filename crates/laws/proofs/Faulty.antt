@@ -79,6 +79,9 @@ module _ {W : Type 0} where
   pub faultless-read : {A : Type 0} {r : Reader A} {bs : List ℕ} {a : A} → ReadsAs r bs a → Faulty W r bs a 0
   faultless-read p = record { run = p .run }
 
+  pub faulty-reads : {A : Type 0} {r : Reader A} {bs : List ℕ} {a : A} → Faulty W r bs a 0 → ReadsAs r bs a
+  faulty-reads p = record { run = p .run }
+
   -- the same fault in other words
   pub faulty-as : {A : Type 0} {r : Reader A} {bs : List ℕ} {a : A} {x y : ℕ} → x ≡ y → Faulty W r bs a x → Faulty W r bs a y
   faulty-as {r = r} {bs = bs} {a = a} e p = subst (λ (x : ℕ). Faulty W r bs a x) e p

@@ -26,9 +26,10 @@ use Rattle.model.specs.Fault.{eventGood, firstFault, dependencyWithin, dependen
 use Rattle.model.specs.Answers.{answerOf}
 use Rattle.model.specs.Fits.{Shaped, Numbers, Stated, asFault}
 use Rattle.model.proofs.WriteOrders.{one-longer}
-use Rattle.model.proofs.Faultless.{passed, between-least, between-most, least-first, least-next}
-use Rattle.laws.proofs.ReadBack.{kinds-most, reads-bytes, reads-all-orders, headBytes, headOf, listingBytes, listingOf, restBytes, restOf, parted}
-use Rattle.laws.proofs.AnyNames.{else-first}
+use Rattle.model.proofs.Faultless.{passed, between-least, between-most, least-first, least-next, else-first}
+use Rattle.laws.proofs.Names.{reads-bytes}
+use Rattle.laws.proofs.ReadOrder.{reads-all-orders}
+use Rattle.laws.proofs.Parts.{kinds-most, headBytes, headOf, listingBytes, listingOf, restBytes, restOf, parted}
 use Rattle.laws.proofs.Faulty.{Meets, Faulty, Wide, along, Steps, two, three, if-passed, listed, apart, faultless-read, faulty-as, faulty-last, faulty-bind, faulty-then, faulty-unless, faulty-up-to, faulty-within, faulty-below, faulty-under, faulty-turns, faulty-times}
 
 -- ---- faults of lists, by what stands before
@@ -166,11 +167,29 @@ module _ (W : Type 0) where
 
 -- ---- a case
 
-module _ (W : Type 0) (c : Case) (S : Shaped c) (N : Numbers (Wide W) c) where
-  abbrev goodHead : Bool
+-- the faults of the parts of its record
+module _ (c : Case) where
+  abbrev pub goodHead : Bool
   goodHead = between leastEdition mostEdition (c .edition) && between 1 mostThreads (c .n) && between 1 mostAddresses (c .m)
 
-  faulty-head : Faulty W head (headBytes (headOf c)) (headOf c) (orElse goodHead 3 0)
+  abbrev pub listingFault : ℕ
+  listingFault =
+      orElse (every (λ v. leb v mostValue) (c .initials)) 3 (orElse (leb (c .k) mostEvents) 3 (orElse (every (eventGood (c .edition) (c .n) (c .m)) (c .events)) 3 0))
+
+  abbrev pub linksFault : ℕ
+  linksFault = orElse (leb (length (c .dependencies)) mostDependencies) 3 (dependencyFault (c .k) (dependencyGood (c .events)) 0 (c .dependencies))
+
+  abbrev pub restFault : ℕ
+  restFault = firstFault (writesFault (c .k) (storeTo (c .events)) 0 (c .writes)) (nameFault (c .name))
+
+  pub by-parts : orElse goodHead 3 (firstFault listingFault (firstFault linksFault restFault)) ≡ fault c
+  unfolding fault
+  by-parts =
+      apart (between leastEdition mostEdition (c .edition)) (between 1 mostThreads (c .n)) (between 1 mostAddresses (c .m)) _
+      ∙ simp (← else-first)
+
+module _ (W : Type 0) (c : Case) (S : Shaped c) (N : Numbers (Wide W) c) where
+  pub faulty-head : Faulty W head (headBytes (headOf c)) (headOf c) (orElse (goodHead c) 3 0)
   unfolding head
   faulty-head =
       faulty-as (three (between leastEdition mostEdition (c .edition)) (between 1 mostThreads (c .n)) (between 1 mostAddresses (c .m)))
@@ -178,23 +197,7 @@ module _ (W : Type 0) (c : Case) (S : Shaped c) (N : Numbers (Wide W) c) where
       faulty-bind _ (faulty-within 1 mostThreads (c .n) (lit< tt) (N .n)) (λ z.
       faulty-last _ (faulty-within 1 mostAddresses (c .m) (lit< tt) (N .m)))))
 
-  abbrev listingFault : ℕ
-  listingFault =
-      orElse (every (λ v. leb v mostValue) (c .initials)) 3 (orElse (leb (c .k) mostEvents) 3 (orElse (every (eventGood (c .edition) (c .n) (c .m)) (c .events)) 3 0))
-
-  abbrev linksFault : ℕ
-  linksFault = orElse (leb (length (c .dependencies)) mostDependencies) 3 (dependencyFault (c .k) (dependencyGood (c .events)) 0 (c .dependencies))
-
-  abbrev restFault : ℕ
-  restFault = firstFault (writesFault (c .k) (storeTo (c .events)) 0 (c .writes)) (nameFault (c .name))
-
-  by-parts : orElse goodHead 3 (firstFault listingFault (firstFault linksFault restFault)) ≡ fault c
-  unfolding fault
-  by-parts =
-      apart (between leastEdition mostEdition (c .edition)) (between 1 mostThreads (c .n)) (between 1 mostAddresses (c .m)) _
-      ∙ simp (← else-first)
-
-  module _ (h : goodHead ≡ true) where
+  module _ (h : (goodHead c) ≡ true) where
     threads : between 1 mostThreads (c .n) ≡ true
     threads = and-r (between leastEdition mostEdition (c .edition)) _ (and-l (between leastEdition mostEdition (c .edition) && between 1 mostThreads (c .n)) _ h)
 
@@ -225,7 +228,7 @@ module _ (W : Type 0) (c : Case) (S : Shaped c) (N : Numbers (Wide W) c) where
         (all-three _ _ _ _ (λ e a v w. faulty-event W (c .edition) (c .n) (c .m) e n-least m-least (omega (arith, n-most)) (omega (arith, m-most)) a v w)
         (c .events) (S .no-address) (S .no-value) (N .events)))
 
-    faulty-listing : Faulty W (listing (c .edition) (c .n) (c .m)) (listingBytes (listingOf c)) (listingOf c) listingFault
+    pub faulty-listing : Faulty W (listing (c .edition) (c .n) (c .m)) (listingBytes (listingOf c)) (listingOf c) (listingFault c)
     unfolding listing
     faulty-listing =
         faulty-then _ (every (λ v. leb v mostValue) (c .initials)) faulty-initials (λ z.
@@ -233,15 +236,19 @@ module _ (W : Type 0) (c : Case) (S : Shaped c) (N : Numbers (Wide W) c) where
         faulty-last _ faulty-events))
 
   module _ (few : c .k ≤ mostEvents) where
-    faulty-orders : Faulty W (times (c .n) (order (c .k))) (each (orderBytes (c .k)) (c .orders)) (c .orders) 0
+    pub faulty-orders : Faulty W (times (c .n) (order (c .k))) (each (orderBytes (c .k)) (c .orders)) (c .orders) 0
     faulty-orders = rw (S .n) (faultless-read (reads-all-orders (c .k) (c .orders) few (S .orders)))
 
-    faulty-all-writes : Faulty W (turns (c .m) (nextWriteOrder (c .k) (storeTo (c .events))) []) (each (each encode) (c .writes)) (c .writes)
+    pub faulty-all-links : Faulty W (dependencies (c .edition) (c .k) (dependencyGood (c .events))) (dependenciesBytes (c .edition) (c .dependencies)) (c .dependencies) (linksFault c)
+    faulty-all-links =
+        faulty-links W (c .edition) (c .k) (dependencyGood (c .events)) (c .dependencies) (S .no-dependencies) (omega arith) (N .dependencies-count) (N .dependencies)
+
+    pub faulty-all-writes : Faulty W (turns (c .m) (nextWriteOrder (c .k) (storeTo (c .events))) []) (each (each encode) (c .writes)) (c .writes)
         (writesFault (c .k) (storeTo (c .events)) 0 (c .writes))
     faulty-all-writes = rw (S .m′) (faulty-writes W (c .k) (storeTo (c .events)) (omega arith) (c .writes) (S .writes) (N .writes))
 
     faulty-rest : Faulty W (rest (c .n) (c .m) (c .k) (storeTo (c .events))) (restBytes (c .k) (restOf c)) (restOf c)
-        restFault
+        (restFault c)
     unfolding rest nameFault
     faulty-rest =
         faulty-bind _ faulty-all-writes (λ z.
@@ -249,14 +256,14 @@ module _ (W : Type 0) (c : Case) (S : Shaped c) (N : Numbers (Wide W) c) where
         faulty-then _ (leb (length (c .name)) mostName) (faulty-up-to mostName (length (c .name)) (lit< tt) (N .name-count)) (λ z.
         faulty-last _ (faulty-text W (c .name)))))
 
-  faulty-case : Faulty W case (recordOf c) c (fault c)
+  pub faulty-case : Faulty W case (recordOf c) c (fault c)
   unfolding case
   faulty-case =
-      rw (parted c) (faulty-as by-parts
-      (faulty-then _ goodHead faulty-head (λ h.
+      rw (parted c) (faulty-as (by-parts c)
+      (faulty-then _ (goodHead c) faulty-head (λ h.
       faulty-bind _ (faulty-listing h) (λ z.
       let few : c .k ≤ mostEvents = leb-true (c .k) mostEvents (passed (leb (c .k) mostEvents) 2 _ (passed (every (λ v. leb v mostValue) (c .initials)) 2 _ z .there) .here) in
-      faulty-bind _ (faulty-links W (c .edition) (c .k) (dependencyGood (c .events)) (c .dependencies) (S .no-dependencies) (omega arith) (N .dependencies-count) (N .dependencies)) (λ z.
+      faulty-bind _ (faulty-all-links few) (λ z.
       faulty-last _ (faulty-rest few))))))
 
   -- reading the record of the case, whatever lies behind it
@@ -280,7 +287,7 @@ numbers-map {P} {Q} f c N = record {
   name-count = f _ (N .name-count);
 }
 
-every-number : {P : ℕ → Type 0} → ((v : ℕ) → P v) → (c : Case) → Numbers P c
+pub every-number : {P : ℕ → Type 0} → ((v : ℕ) → P v) → (c : Case) → Numbers P c
 every-number {P} f c = record {
   edition = f _;
   n = f _;

@@ -1,4 +1,8 @@
 pub mod Names
+pub mod Parts
+pub mod ReadOrder
+pub mod Faulty
+pub mod FirstBadField
 pub mod ReadBack
 pub mod Exact
 pub mod ExactOrder
@@ -19,5 +23,3 @@ pub mod Corollaries
 pub mod RoundTrip
 pub mod FirstAnswers
 pub mod AnyNames
-pub mod Faulty
-pub mod FirstBadField

@@ -14,7 +14,7 @@ use Rattle.model.specs.Case.{Case, printable}
 use Rattle.model.specs.Record.{read}
 use Rattle.model.specs.Written.{dependenciesBytes, orderBytes, recordOf}
 use Rattle.model.specs.Answers.{name, judgedName, nameUnder, renumberRecord, renumberedName}
-use Rattle.laws.proofs.ReadBack.{headBytes, headOf, listingBytes, listingOf}
+use Rattle.laws.proofs.Parts.{headBytes, headOf, listingBytes, listingOf}
 use Rattle.laws.proofs.ExactCase.{Readable, readable}
 
 -- what stands before the name

@@ -1,20 +1,22 @@
--- Laws of a name's bytes: which of them is the first that is not printable.
+-- Laws of a name's bytes: that they are read back, and which of them is the first that is not printable.
 -- Assumes nothing.
-use Prim.Native.Nat.{ℕ, zero, suc, _≤_, _<_}
+use Prim.Native.Nat.{ℕ, zero, suc, _≤_, _<_, _+_}
 use native.Mathlib.Nat.{not-suc-le-zero, le-of-suc-le-suc}
 use native.Mathlib.Omega.{arith}
 use mathlib.Core.Path.{_≡_, refl, ap}
 use mathlib.Core.Bool.{Bool, true, false, true≢false}
 use mathlib.Core.List.{List, [], _∷_, _++_}
 use lib.Dec.{leb}
-use lib.ListN.{length, getD, take}
-use borrow.Author.Tests.{leb-true}
+use lib.ListN.{length, getD, take, length-append, length-drop}
+use lib.Seq.{take-at}
+use borrow.Author.Tests.{leb-true, le-leb}
 use Rattle.finite.specs.Lists.{every}
 use Rattle.finite.proofs.Tests.{and-l, and-r, and-i}
 use Rattle.number.specs.Number.{Bytes}
+use Rattle.codec.proofs.ReadsAs.{ReadsAs}
 use Rattle.model.specs.Limits.{leastPrintable, mostPrintable}
 use Rattle.model.specs.Case.{printable}
-use Rattle.model.specs.Record.{printableFront}
+use Rattle.model.specs.Record.{printableFront, bytes}
 
 pub printable-bytes : (l : List ℕ) → every printable l ≡ true → Bytes l
 unfolding every printable
@@ -58,3 +60,12 @@ unfolding every
 printable-more [] b e h = rw h
 printable-more (x ∷ l) b e h =
     and-i (printable x) (every printable (l ++ (b ∷ []))) (and-l (printable x) (every printable l) e) (printable-more l b (and-r (printable x) (every printable l) e) h)
+
+-- as many bytes as there are of them are read as they stand
+pub reads-bytes : (l : List ℕ) → ReadsAs (bytes (length l)) l l
+unfolding bytes
+reads-bytes l = record {
+  run = λ s at t b h.
+      let fits : at + length l ≤ length s = omega (arith, simp (length-drop, length-append) at (ap length h)) in
+      rw (le-leb (at + length l) (length s) fits, h, take-at l t (length l) refl);
+}

@@ -38,17 +38,25 @@ pass : (t : Bool) (x rest : ℕ) → t ≡ true → rest ≡ 0 → orElse t x re
 pass true x rest e h = h
 pass false x rest e h = absurd (true≢false (sym e))
 
-record Neither (x y : ℕ) : Type 0 where
-  here : x ≡ 0
-  there : y ≡ 0
+pub record Neither (x y : ℕ) : Type 0 where
+  pub here : x ≡ 0
+  pub there : y ≡ 0
 
-neither : (x y : ℕ) → firstFault x y ≡ 0 → Neither x y
+pub neither : (x y : ℕ) → firstFault x y ≡ 0 → Neither x y
 neither zero y e = record { here = refl; there = e }
 neither (suc x) y e = absurd (omega arith)
 
 none : (x y : ℕ) → x ≡ 0 → y ≡ 0 → firstFault x y ≡ 0
 none zero y e h = h
 none (suc x) y e h = absurd (omega arith)
+
+pub else-first : (t : Bool) (x y : ℕ) → orElse t 3 (firstFault x y) ≡ firstFault (orElse t 3 x) y
+else-first true x y = refl
+else-first false x y = refl
+
+pub first-first : (x y z : ℕ) → firstFault x (firstFault y z) ≡ firstFault (firstFault x y) z
+first-first zero y z = refl
+first-first (suc x) y z = refl
 
 module _ (lo hi v : ℕ) where
   between-make : lo ≤ v → v ≤ hi → between lo hi v ≡ true
