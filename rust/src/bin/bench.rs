@@ -1,11 +1,15 @@
 //! Times the library beside an ordinary optimised reader and judge, and its two tests of rule 11
 //! beside each other, on the same input in one run.
 
+#[path = "record/built.rs"]
+mod built;
+
+use built::built;
 use litmus::Rows;
 use ordinary::judge::PPCS;
 use ordinary::limits::{EDITIONS, EVENTS, NAME, PRINTABLE, THREADS};
 use ordinary::random::Random;
-use ordinary::{generate, rows, write, Case, Kind, Order};
+use ordinary::{generate, rows, Case, Kind, Order};
 use std::hint::black_box;
 use std::time::{Duration, Instant};
 
@@ -25,11 +29,16 @@ fn main() {
     }
 }
 
+/// By the proved writer.
+fn record(case: &Case) -> Vec<u8> {
+    built(case).record().expect("a case without fault")
+}
+
 /// From bytes, beside the ordinary implementation. Records of edition 2 have lwsyncs and
 /// dependencies.
 fn records(edition: u32, count: usize) {
     let cases = accepted_cases(edition, count);
-    let records: Vec<Vec<u8>> = cases.iter().map(write::record).collect();
+    let records: Vec<Vec<u8>> = cases.iter().map(record).collect();
     let bytes: usize = records.iter().map(Vec::len).sum();
     println!("{INPUTS} accepted records of edition {edition}, {bytes} bytes");
     println!(
