@@ -158,7 +158,8 @@ module _ (c : Case) (F : Fits c) where
     case-out = ap (renumberOut q r) (handed-on c F) ∙ out (length (recordOf c))
 
 module _ (c : Case) (F : Fits c) where
-  Fitting : Composed → Type 0
+  -- both permutations fit the case
+  unfoldable pub Fitting : Composed → Type 0
   Fitting b = T (fits (b .T) (c .n)) × T (fits (b .A) (c .m))
 
   abbrev size : ℕ
@@ -189,12 +190,12 @@ module _ (c : Case) (F : Fits c) where
         ∙ judgement-moves (b .A) h c (ruled c b) (finals-move (b .T) (b .A) c F (fit .0) (fit .1)) size (verdict c w)
         ∙ sym (ap (λ (o : Out Case). movedAnswer (b .A) (judgeOut w o)) e′))
 
-    judging-gives :
+    pub judging-gives :
         (model : ℕ) (behind : List ℕ) → judge model (recordOf (ruled c b) ++ behind) ≡ movedAnswer (b .A) (judge model (recordOf c ++ behind))
     unfolding judge
     judging-gives model behind = judging-out model _ _ (read-back (ruled c b) (now-fits b fit) behind) (read-back c F behind)
 
-    judging-case : (model : ℕ) → judgeCase model (ruled c b) ≡ movedAnswer (b .A) (judgeCase model c)
+    pub judging-case : (model : ℕ) → judgeCase model (ruled c b) ≡ movedAnswer (b .A) (judgeCase model c)
     unfolding judgeCase
     judging-case model = judging-out model _ _ (handed-on (ruled c b) (now-fits b fit)) (handed-on c F)
 

@@ -39,7 +39,7 @@ unfolding moved
 moved-length q j d l = sym (table-length 0 j _)
 
 -- what is written of a list takes as many bytes as what is written of it moved
-moved-long :
+pub moved-long :
     {A : Type 0} (enc : A → List ℕ) (q j : ℕ) → T (fits q j) → (d : A) (l : List A) → j ≡ length l → AsLong (each enc (moved q j d l)) (each enc l)
 unfolding moved
 moved-long {A} enc q j f d l e = record {
@@ -50,7 +50,7 @@ moved-long {A} enc q j f d l e = record {
 }
 
 -- labels take one byte each
-label-long : (v w : ℕ) → v < labels → w < labels → AsLong (encode v) (encode w)
+pub label-long : (v w : ℕ) → v < labels → w < labels → AsLong (encode v) (encode w)
 label-long v w h l = record { long = rw (encode-low v (omega arith), encode-low w (omega arith)) }
 
 module _ (q r n m : ℕ) (fq : T (fits q n)) (fr : T (fits r m)) where

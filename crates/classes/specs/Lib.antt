@@ -1,0 +1,5 @@
+pub mod Order
+pub mod Representative
+pub mod Search
+pub mod Kept
+pub mod Worked
