@@ -66,13 +66,13 @@ decided a b x y p =
     ap₂ atMost (sym (append-nil a)) (sym (append-nil b)) ∙ p .run [] [] [] [] refl ∙ ap₂ atMost (append-nil x) (append-nil y)
 
 -- labels below n, moved by permutations that fit, take one byte each
-labels-long :
+pub labels-long :
     (q q′ n : ℕ) → n ≤ labels → T (fits q n) → T (fits q′ n) → (x : ℕ) → x < n → length (encode (image q x)) ≡ length (encode (image q′ x))
 labels-long q q′ n hn f f′ x h =
     label-long (image q x) (image q′ x) (omega (arith, fits-image q n f x h)) (omega (arith, fits-image q′ n f′ x h)) .long
 
 -- a list by labels, moved by permutations that fit, takes as many bytes
-moved-both :
+pub moved-both :
     {A : Type 0} (enc : A → List ℕ) (q q′ j : ℕ) → T (fits q j) → T (fits q′ j) → (d : A) (l : List A) → j ≡ length l
     → length (each enc (moved q j d l)) ≡ length (each enc (moved q′ j d l))
 moved-both enc q q′ j f f′ d l e = moved-long enc q j f d l e .long ∙ sym (moved-long enc q′ j f′ d l e .long)

@@ -6,6 +6,7 @@ use mathlib.Core.Path.{_≡_, refl, sym, ap₂, _∙_}
 use mathlib.Core.Bool.{Bool, true, false, cond, true≢false}
 use mathlib.Core.List.{List, [], _∷_, _++_}
 use lib.Dec.{eqb, ltb}
+use lib.ListN.{length}
 use borrow.Author.Tests.{eqb-true, eq-eqb, ne-eqb, eqb-false, ltb-true, ltb-false, lt-ltb, le-ltb}
 use Rattle.classes.specs.Order.{atMost}
 
@@ -85,3 +86,17 @@ byte-less x y u v l = of-first x y u v (less l)
 pub byte-greater : (x y : ℕ) (u v : List ℕ) → y < x → atMost (x ∷ u) (y ∷ v) ≡ false
 unfolding atMost
 byte-greater x y u v l = rw (ne-eqb x y (λ e. omega arith)) (le-ltb x y (omega arith))
+
+-- what stands behind two of one length decides only where they are equal; here it is equal then
+pub front-decides : (a b u v : List ℕ) → length a ≡ length b → (a ≡ b → u ≡ v) → atMost (a ++ u) (b ++ v) ≡ atMost a b
+unfolding atMost
+front-decides [] [] u v e h = rw (h refl) (at-most-same v)
+front-decides [] (y ∷ b) u v e h = absurd (omega arith)
+front-decides (x ∷ a) [] u v e h = absurd (omega arith)
+front-decides (x ∷ a) (y ∷ b) u v e h = go (eqb x y) refl (front-decides a b u v (omega arith))
+  where
+    go :
+        (t : Bool) → eqb x y ≡ t → ((a ≡ b → u ≡ v) → atMost (a ++ u) (b ++ v) ≡ atMost a b)
+        → cond t (atMost (a ++ u) (b ++ v)) (ltb x y) ≡ cond t (atMost a b) (ltb x y)
+    go true p ih = ih (λ z. h (ap₂ _∷_ (eqb-true x y p) z))
+    go false p ih = refl

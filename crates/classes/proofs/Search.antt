@@ -5,11 +5,12 @@ use Prim.Native.Nat.{ℕ, _+_, _<_}
 use native.Mathlib.Nat.{zero-add}
 use native.Mathlib.Decide.{decLt}
 use native.Mathlib.Omega.{arith}
-use mathlib.Core.Path.{_≡_, refl, sym, ap, _∙_, subst}
+use mathlib.Core.Path.{_≡_, refl, sym, ap, ap₂, _∙_, subst}
 use mathlib.Core.Bool.{Bool, true, false, cond, _&&_, true≢false}
-use mathlib.Core.List.{List, [], _∷_, _++_}
+use mathlib.Core.List.{List, [], _∷_, _++_, append-assoc}
 use lib.Dec.{T, eqb}
-use lib.ListN.{length, getD}
+use lib.ListN.{length, getD, drop}
+use lib.Seq.{drop-at}
 use borrow.Author.Tests.{eqb-true}
 use Rattle.finite.specs.Tests.{count}
 use Rattle.finite.specs.Lists.{each, All}
@@ -20,6 +21,7 @@ use Rattle.number.specs.Number.{encode}
 use Rattle.number.proofs.Encoding.{encode-low}
 use Rattle.permutation.specs.Permutation.{labels, image, inverse, fits}
 use Rattle.permutation.proofs.Laws.{fits-below, fits-image, fits-inverse, image-inverse, inverse-image}
+use Rattle.codec.proofs.AsLong.{AsLong, still, _then_}
 use Rattle.model.specs.Case.{Case, Event, noEvent, store, bare}
 use Rattle.model.specs.Record.{storeTo}
 use Rattle.model.specs.Written.{recordOf}
@@ -30,9 +32,9 @@ use Rattle.laws.proofs.ExactCase.{record-injective}
 use Rattle.classes.specs.Order.{atMost}
 use Rattle.classes.specs.Representative.{representative, Renumbering}
 use Rattle.classes.specs.Search.{Best, BestThreads, BestAddresses}
-use Rattle.classes.proofs.Order.{at-most-same, at-most-trans, at-most-both, at-most-other}
+use Rattle.classes.proofs.Order.{at-most-same, at-most-trans, at-most-both, at-most-other, front-decides}
 use Rattle.classes.proofs.Representative.{renumbering-fits, representative-is, representative-least, representative-fits}
-use Rattle.classes.proofs.Decide.{threads-apart, addresses-apart, addressByte, addressBytes, writesBytes}
+use Rattle.classes.proofs.Decide.{addressByte, initialBytes, addressBytes, writesBytes, labels-long, moved-both, threads-apart, addresses-apart, addresses-decide}
 
 -- ---- the numbers below i, and i
 
@@ -58,6 +60,13 @@ module _ (test : ℕ → Bool) (bytes : ℕ → List ℕ) where
         by : (p : ℕ) → p < i + 1 → test p ≡ true → Dec (p < i) → atMost (bytes i) (bytes p) ≡ true
         by p m t (yes l) = at-most-trans (bytes i) (bytes q) (bytes p) (at-most-other (bytes q) (bytes i) h) (B .least p l t)
         by p m t (no n) = let e : i ≡ p = omega arith in subst (λ (x : ℕ). atMost (bytes i) (bytes x) ≡ true) e (at-most-same (bytes i))
+
+-- what decides as the bytes do gives the same best
+pub best-by :
+    (test : ℕ → Bool) (part bytes : ℕ → List ℕ) (i q : ℕ)
+    → ((p : ℕ) → test p ≡ true → (p′ : ℕ) → test p′ ≡ true → atMost (bytes p) (bytes p′) ≡ atMost (part p) (part p′))
+    → Best test part i q → Best test bytes i q
+best-by test part bytes i q h B = record { passes = B .passes; least = λ p l t. h q (B .passes) p t ∙ B .least p l t }
 
 -- ---- both best permutations
 
@@ -95,7 +104,7 @@ module _ (c : Case) (F : Fits c) (r r′ : ℕ) (fr : T (fits r (c .m))) (fr′ 
   first-same : (x y : ℕ) (u v : List ℕ) → x < labels → y < labels → encode x ++ u ≡ encode y ++ v → (x ≡ y) × (u ≡ v)
   first-same x y u v h l e =
       let z : (x ∷ u) ≡ (y ∷ v) = sym (ap (λ (w : List ℕ). w ++ u) (encode-low x (omega arith))) ∙ e ∙ ap (λ (w : List ℕ). w ++ v) (encode-low y (omega arith)) in
-      (ap (λ (w : List ℕ). getD w 0 0) z, ap (λ (w : List ℕ). lib.ListN.drop 1 w) z)
+      (ap (λ (w : List ℕ). getD w 0 0) z, ap (λ (w : List ℕ). drop 1 w) z)
 
   events-same : (es : List Event) → All (EventFits (c .edition) (c .n) (c .m)) es → each (addressByte r) es ≡ each (addressByte r′) es → All Same es
   unfolding each
@@ -155,8 +164,33 @@ module _ (c : Case) (F : Fits c) (r r′ : ℕ) (fr : T (fits r (c .m))) (fr′ 
         go [] (e ∷ w) g l =
             ap (λ (x : ℕ). getD (c .writes) x []) (from-second (stored-same b e w (fits-image (inverse r′) (c .m) (fits-inverse r′ (c .m) fr′) y h) l))
 
-  pub same-writes : addressBytes c r ≡ addressBytes c r′ → writesBytes c r ≡ writesBytes c r′
+  same-writes : addressBytes c r ≡ addressBytes c r′ → writesBytes c r ≡ writesBytes c r′
   unfolding moved
   same-writes e =
       let same : All Same (c .events) = events-same (c .events) (F .events) e in
       ap (each (each encode)) (table-same 0 (c .m) _ _ (λ y _ h. label-same same y (rw zero-add at h)))
+
+  addresses-long : (es : List Event) → All (EventFits (c .edition) (c .n) (c .m)) es → AsLong (each (addressByte r) es) (each (addressByte r′) es)
+  unfolding each
+  addresses-long [] h = still []
+  addresses-long (e ∷ es) h = go (bare (e .kind)) refl then addresses-long es (h .1)
+    where
+      go : (b : Bool) → bare (e .kind) ≡ b → AsLong (cond b [] (encode (image r (e .address)))) (cond b [] (encode (image r′ (e .address))))
+      go true p = still []
+      go false p = record { long = labels-long r r′ (c .m) (F .m-most) fr fr′ (e .address) (h .0 .address p) }
+
+  -- between two permutations of addresses the initial values and the address fields decide alone
+  pub addresses-alone :
+      (q : ℕ)
+      → atMost (recordOf (renumber q r c)) (recordOf (renumber q r′ c)) ≡ atMost (initialBytes c r ++ addressBytes c r) (initialBytes c r′ ++ addressBytes c r′)
+  addresses-alone q =
+      let first : AsLong (initialBytes c r) (initialBytes c r′) = record { long = moved-both encode r r′ (c .m) fr fr′ 0 (c .initials) (F .m) } in
+      let both : AsLong (initialBytes c r ++ addressBytes c r) (initialBytes c r′ ++ addressBytes c r′) = first then addresses-long (c .events) (F .events) in
+      addresses-decide c F q r r′ fr fr′
+      ∙ sym (ap₂ atMost (append-assoc (initialBytes c r) (addressBytes c r) (writesBytes c r)) (append-assoc (initialBytes c r′) (addressBytes c r′) (writesBytes c r′)))
+      ∙ front-decides (initialBytes c r ++ addressBytes c r) (initialBytes c r′ ++ addressBytes c r′) (writesBytes c r) (writesBytes c r′) (both .long)
+      (λ e.
+      same-writes
+      (sym (drop-at (initialBytes c r) (addressBytes c r) (length (initialBytes c r)) refl)
+      ∙ ap (drop (length (initialBytes c r))) e
+      ∙ drop-at (initialBytes c r′) (addressBytes c r′) (length (initialBytes c r)) (sym (first .long))))

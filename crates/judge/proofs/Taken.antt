@@ -4,18 +4,17 @@ use Prim.Native.Nat.{ℕ, _≤_}
 use native.Mathlib.Omega.{arith}
 use mathlib.Core.Path.{_≡_, refl, ap}
 use mathlib.Core.List.{List}
-use lib.ListN.{length, drop, getD, length-append}
+use lib.ListN.{length, getD}
 use mir.Syntax.{w8}
 use mir.Val.{Fits}
 use Rattle.number.specs.Reader.{Out, stop, next}
 use Rattle.number.specs.Number.{Bytes}
 use Rattle.model.specs.Case.{Case}
 use Rattle.model.specs.Record.{read}
-use Rattle.model.specs.Written.{recordOf}
-use Rattle.laws.proofs.ExactCase.{Readable, readable}
 use Rattle.litmus.specs.declared.CaseAnswer.{CaseAnswer}
 use Rattle.litmus.specs.Shown.{caseShown}
-use Rattle.litmus.proofs.Bytes.{slice-bytes}
+use Rattle.reader.proofs.Bytes.{slice-bytes}
+use Rattle.reader.proofs.Found.{read-within}
 
 pub taken-most : (s : List ℕ) → ((i : ℕ) → Fits w8 (getD s i 0)) → (r : CaseAnswer) → r ≡ caseShown (read s) → r .answer .length ≤ length s
 unfolding caseShown
@@ -30,5 +29,4 @@ taken-most s fit r e = go (read s) refl e
         omega arith
     go (next c i) g e =
         let here : r .answer .length ≡ i = ap (λ (a : CaseAnswer). a .answer .length) e in
-        let R : Readable s c i = readable s h c i g in
-        omega (arith, R .length, length-append (recordOf c) (drop i s), ap length (R .whole))
+        omega (arith, read-within s h c i g)

@@ -9,6 +9,7 @@ use lib.ListN.{length, replicate, length-replicate}
 use Rattle.finite.proofs.Tests.{true-T, and-left, and-right}
 use Rattle.number.specs.Reader.{Out, stop, next}
 use Rattle.permutation.specs.Permutation.{fits}
+use Rattle.model.specs.Limits.{mostAddresses}
 use Rattle.model.specs.Case.{Case}
 use Rattle.model.specs.Rules.{Model, verdict}
 use Rattle.model.specs.Record.{read}
@@ -28,11 +29,26 @@ use Rattle.laws.proofs.ExactCase.{readable}
 use Rattle.reader.specs.declared.Reading.{Reading}
 use Rattle.rules.specs.Verdict.{modelOf}
 use Rattle.litmus.proofs.Models.{some-model}
-use Rattle.litmus.proofs.Found.{Found, case-is}
+use Rattle.reader.specs.Answers.{readingOf}
+use Rattle.reader.proofs.Found.{Found, case-is}
 use Rattle.answers.specs.declared.Answer.{Answer as Shown}
 use Rattle.answers.specs.Shown.{shown}
 use Rattle.litmus.specs.declared.CaseAnswer.{CaseAnswer}
 use Rattle.litmus.specs.Shown.{caseShown}
+
+-- a reading as the answer that callers get
+pub read-shown :
+    (o : Out Case) (r : Reading) → r ≡ readingOf o
+    → _≡_ {A = CaseAnswer}
+    (record { answer = record { number = r .number; place = r .place; length = r .length; finals = replicate mostAddresses 0 }; case = r .case }) (caseShown o)
+unfolding readingOf caseShown
+read-shown o r e = go o r e
+  where
+    go : (o : Out Case) (r : Reading) → r ≡ readingOf o
+        → _≡_ {A = CaseAnswer}
+        (record { answer = record { number = r .number; place = r .place; length = r .length; finals = replicate mostAddresses 0 }; case = r .case }) (caseShown o)
+    go (stop x p) r e = λ i. record { answer = record { number = e i .number; place = e i .place; length = e i .length; finals = replicate mostAddresses 0 }; case = e i .case }
+    go (next c j) r e = λ i. record { answer = record { number = e i .number; place = e i .place; length = e i .length; finals = replicate mostAddresses 0 }; case = e i .case }
 
 -- a case handed without bytes
 module _ (c : Case) where

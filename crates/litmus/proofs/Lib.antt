@@ -1,7 +1,6 @@
 pub mod Models
-pub mod Bytes
-pub mod Found
 pub mod Given
+pub mod Represented
 pub mod RoundTrip
 pub mod OrderAnswers
 pub mod NameParts

@@ -11,10 +11,13 @@ ghost use Rattle.number.specs.Reader.{stop};
 ghost use Rattle.model.specs.Renumber.{fitting as fittingOf};
 ghost use Rattle.case.specs.Held.{caseOf};
 ghost use Rattle.answers.specs.Shown.{shown};
+ghost use Rattle.classes.specs.Representative.{representativeRecord, representativeCase, choice as choiceOf, lesser as lesserOf};
+ghost use Rattle.representatives.specs.Shown.{choiceShown};
 ghost use Rattle.litmus.specs.Shown.{caseShown, partShown, noPart, judgedPart, renumberedPart, bytesOf};
 ghost use Rattle.litmus.specs.Orders.{tooMany, rule11Answer};
 pub use answers::Answer;
 use case::Case;
+pub use representatives::Choice;
 
 // An answer and its case, which is `Case::empty()` where it was refused.
 #[repr(C)]
@@ -149,6 +152,43 @@ fn no_case(number: u8) -> CaseAnswer
     let answer = answers::refused(number, 0);
     let case = Case::empty();
     CaseAnswer { answer, case }
+}
+
+// The representative of a record's class, the least of all its renumberings compared byte by byte, into another buffer from a place
+// on: the record's 1 to 4 or 23; 6 for too little room; or 0 and the record's length.
+pub fn representative(bytes: &[u8], out: &mut [u8], at: usize) -> Answer
+    ensures { λ r. ⌜ r ≡ shown (representativeRecord (now (bytes .entry)) (now (out .entry)) at .answer) ⌝ }
+    ensures { λ r. ⌜ now (out .exit) ≡ representativeRecord (now (bytes .entry)) (now (out .entry)) at .buffer ⌝ }
+{
+    representatives::representative(bytes, out, at)
+}
+
+// The same of a case: 3, 4 or 23 with place 0 for a bad field; or 0, the length of its record and the case.
+pub fn representative_case(c: Case) -> CaseAnswer
+    ensures { λ r. ⌜ r ≡ caseShown (representativeCase (caseOf c)) ⌝ }
+{
+    let fault = case::fault(c);
+    if fault == 0 {
+        let case = least::representative(c);
+        let answer = answers::finished(writer::size(case));
+        return CaseAnswer { answer, case };
+    }
+    no_case(fault)
+}
+
+// Which of two records is the lesser, compared byte by byte: 1, also where they are equal, or 2, and its length; 0 and 0 where either
+// can't be read. Bytes behind them have no say.
+pub fn compared(first: &[u8], second: &[u8]) -> Choice
+    ensures { λ r. ⌜ r ≡ choiceShown (choiceOf (now (first .entry)) (now (second .entry))) ⌝ }
+{
+    representatives::compared(first, second)
+}
+
+// The lesser of two records itself, the first if they are equal; an empty part where either can't be read.
+pub fn lesser<'a>(first: &'a [u8], second: &'a [u8]) -> &'a [u8]
+    ensures { λ r. ⌜ now r ≡ lesserOf (now (first .entry)) (now (second .entry)) ⌝ }
+{
+    representatives::lesser(first, second)
 }
 
 // The name of a record, as a part of it; empty where it can't be read.
@@ -310,6 +350,21 @@ pub extern "C" fn litmus_renumber(
 }
 
 #[no_mangle]
+pub extern "C" fn litmus_representative(bytes: &[u8], out: &mut [u8], at: u64) -> Answer
+    ensures { λ r. ⌜ r ≡ shown (representativeRecord (now (bytes .entry)) (now (out .entry)) at .answer) ⌝ }
+    ensures { λ r. ⌜ now (out .exit) ≡ representativeRecord (now (bytes .entry)) (now (out .entry)) at .buffer ⌝ }
+{
+    representative(bytes, out, at as usize)
+}
+
+#[no_mangle]
+pub extern "C" fn litmus_lesser(first: &[u8], second: &[u8]) -> Choice
+    ensures { λ r. ⌜ r ≡ choiceShown (choiceOf (now (first .entry)) (now (second .entry))) ⌝ }
+{
+    compared(first, second)
+}
+
+#[no_mangle]
 pub extern "C" fn litmus_name(bytes: &[u8]) -> Part
     ensures { λ r. ⌜ r ≡ partShown (readRecord (now (bytes .entry))) ⌝ }
 {
@@ -386,6 +441,13 @@ pub extern "C" fn litmus_case_renumber(c: Case, threads: u64, addresses: u64) ->
     ensures { λ a. ⌜ a ≡ caseShown (renumberCase threads addresses (caseOf c)) ⌝ }
 {
     renumber_case(c, threads, addresses)
+}
+
+#[no_mangle]
+pub extern "C" fn litmus_case_representative(c: Case) -> CaseAnswer
+    ensures { λ r. ⌜ r ≡ caseShown (representativeCase (caseOf c)) ⌝ }
+{
+    representative_case(c)
 }
 
 #[no_mangle]

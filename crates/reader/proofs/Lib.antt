@@ -9,3 +9,5 @@ pub mod Names
 pub mod Fields
 pub mod Links
 pub mod Whole
+pub mod Bytes
+pub mod Found

@@ -129,13 +129,18 @@ bits-left : (r k a : ℕ) → run (bitBytes (r % 2 ^ k) a) k ≡ run (bitBytes r
 unfolding bitBytes
 bits-left r k a = run-same k _ _ (λ b h. ap (λ (t : Bool). cond t (encode a ++ encode b) []) (bit-left r k b h))
 
-order-bytes : (rows : List ℕ) (k p : ℕ) → orderBytes k (table 0 k (λ a. getD rows (p * mostEvents + a) 0 % 2 ^ k)) ≡ orderAt rows k p
-unfolding orderBytes orderAt pairs rowAt pairsAt
-order-bytes rows k p =
-    let r : ℕ → ℕ = λ a. getD rows (p * mostEvents + a) 0 in
-    ap₂ (λ (i : ℕ) (l : List ℕ). encode i ++ l)
-    (rows-long k (λ a. r a % 2 ^ k) k ∙ sum-same k _ _ (λ a l. count-same k _ _ (λ b h. bit-left (r a) k b h)))
-    (rows-bytes k (λ a. r a % 2 ^ k) k ∙ run-same k _ _ (λ a l. bits-left (r a) k a))
+module _ (rows : List ℕ) (k p : ℕ) where
+  pub order-long : length (rowsPairs k 0 (table 0 k (λ a. getD rows (p * mostEvents + a) 0 % 2 ^ k))) ≡ pairs rows p k
+  unfolding pairs pairsAt
+  order-long =
+      rows-long k (λ a. getD rows (p * mostEvents + a) 0 % 2 ^ k) k
+      ∙ sum-same k _ _ (λ a l. count-same k _ _ (λ b h. bit-left (getD rows (p * mostEvents + a) 0) k b h))
+
+  order-bytes : orderBytes k (table 0 k (λ a. getD rows (p * mostEvents + a) 0 % 2 ^ k)) ≡ orderAt rows k p
+  unfolding orderBytes orderAt rowAt
+  order-bytes =
+      ap₂ (λ (i : ℕ) (l : List ℕ). encode i ++ l) order-long
+      (rows-bytes k (λ a. getD rows (p * mostEvents + a) 0 % 2 ^ k) k ∙ run-same k _ _ (λ a l. bits-left (getD rows (p * mostEvents + a) 0) k a))
 
 -- ---- the record
 module _ (c : Held) where

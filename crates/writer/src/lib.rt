@@ -34,7 +34,7 @@ fn entry(writes: &[u8; Case::MOST_ADDRESSES * Case::MOST_EVENTS], x: usize, i: u
 }
 
 // The row of event a in p's order.
-fn row(rows: &[u64; Case::MOST_THREADS * Case::MOST_EVENTS], p: usize, a: usize) -> u64
+pub fn row(rows: &[u64; Case::MOST_THREADS * Case::MOST_EVENTS], p: usize, a: usize) -> u64
     requires { ⌜ (p < mostThreads) × (a < mostEvents) ⌝ }
     ensures { λ r. ⌜ r ≡ getD (now (rows .entry)) (p * mostEvents + a) 0 ⌝ }
 {
@@ -42,7 +42,11 @@ fn row(rows: &[u64; Case::MOST_THREADS * Case::MOST_EVENTS], p: usize, a: usize)
 }
 
 // How many pairs p's order has.
-fn count_pairs(rows: &[u64; Case::MOST_THREADS * Case::MOST_EVENTS], p: usize, k: usize) -> usize
+pub fn count_pairs(
+    rows: &[u64; Case::MOST_THREADS * Case::MOST_EVENTS],
+    p: usize,
+    k: usize,
+) -> usize
     requires { ⌜ (p < mostThreads) × (k ≤ mostEvents) ⌝ }
     ensures { λ r. ⌜ (r ≡ pairs (now (rows .entry)) p k) × (r ≤ mostEvents * mostEvents) ⌝ }
 {

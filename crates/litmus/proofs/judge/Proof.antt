@@ -3,8 +3,8 @@ use mathlib.Core.Path.{sym, ap, _∙_}
 use borrow.Author.Needs.{needs}
 use Rattle.model.specs.Answers.{judge}
 use Rattle.answers.specs.Shown.{shown}
-use Rattle.litmus.proofs.Bytes.{slice-bytes}
-use Rattle.litmus.proofs.Found.{Found, found, missed, case-sound}
+use Rattle.reader.proofs.Bytes.{slice-bytes}
+use Rattle.reader.proofs.Found.{Found, found, missed, case-sound}
 use Rattle.litmus.proofs.Given.{judge-done, judge-missed}
 use Rattle.litmus.proofs.Models.{no-model}
 use Rattle.litmus.proofs.judge.Statement.{statement}

@@ -1,6 +1,6 @@
 -- `litmus::read` meets its contract. Assumes nothing.
 use borrow.Author.Needs.{needs}
-use Rattle.litmus.proofs.Found.{read-shown}
+use Rattle.litmus.proofs.Given.{read-shown}
 use Rattle.litmus.proofs.read.Statement.{statement}
 use Rattle.litmus.proofs.read.Tie as tie
 

@@ -2,9 +2,9 @@
 use mathlib.Core.Path.{sym, ap, _∙_}
 use borrow.Author.Needs.{needs}
 use Rattle.model.specs.Answers.{Stored}
-use Rattle.litmus.proofs.Bytes.{slice-bytes}
+use Rattle.reader.proofs.Bytes.{slice-bytes}
 use Rattle.answers.specs.Shown.{shown}
-use Rattle.litmus.proofs.Found.{Found, found, missed, case-sound}
+use Rattle.reader.proofs.Found.{Found, found, missed, case-sound}
 use Rattle.litmus.proofs.Given.{relabelled-sound, renumber-done, renumber-misfit, renumber-missed}
 use Rattle.litmus.proofs.renumber.Statement.{statement}
 use Rattle.litmus.proofs.renumber.Tie as tie

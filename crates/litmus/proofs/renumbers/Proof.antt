@@ -4,8 +4,8 @@ use borrow.Author.Needs.{needs}
 use borrow.Author.Tests.{ne-eqb}
 use lib.Dec.{eqb}
 use Rattle.model.specs.Answers.{Stored}
-use Rattle.litmus.proofs.Bytes.{slice-bytes}
-use Rattle.litmus.proofs.Found.{Found, found, missed}
+use Rattle.reader.proofs.Bytes.{slice-bytes}
+use Rattle.reader.proofs.Found.{Found, found, missed}
 use Rattle.litmus.proofs.Given.{renumber-room, renumber-misfit, renumber-missed}
 use Rattle.litmus.proofs.renumbers.Statement.{statement}
 use Rattle.litmus.proofs.renumbers.Tie as tie

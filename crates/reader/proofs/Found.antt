@@ -1,32 +1,36 @@
 -- What a reading of the code says: the case that the model reads, or its refusal.
 -- Assumes nothing.
-use Prim.Native.Nat.{ℕ}
+use Prim.Native.Nat.{ℕ, _≤_}
 use native.Mathlib.Omega.{arith}
 use mathlib.Core.Path.{_≡_, refl, sym, ap, _∙_, subst}
 use mathlib.Core.List.{List}
-use lib.ListN.{replicate}
+use lib.ListN.{length, drop, length-append}
 use Rattle.number.specs.Reader.{Out, stop, next}
 use Rattle.number.specs.Number.{Bytes}
-use Rattle.model.specs.Limits.{mostAddresses}
 use Rattle.model.specs.Case.{Case}
 use Rattle.model.specs.Record.{read}
+use Rattle.model.specs.Written.{recordOf}
 use Rattle.model.specs.Fits.{Fits}
 use Rattle.laws.proofs.Exact.{refused-least}
-use Rattle.laws.proofs.ExactCase.{readable, refused}
+use Rattle.laws.proofs.ExactCase.{Readable, readable, refused}
 use Rattle.case.specs.Held.{caseOf, held}
 use Rattle.case.specs.Sound.{Sound}
 use Rattle.case.proofs.HeldBack.{fits-back}
 use Rattle.case.proofs.Shape.{held-sound}
 use Rattle.reader.specs.declared.Reading.{Reading}
 use Rattle.reader.specs.Answers.{readingOf}
-use Rattle.litmus.specs.declared.CaseAnswer.{CaseAnswer}
-use Rattle.litmus.specs.Shown.{caseShown}
 
 pub record Found (s : List ℕ) (r : Reading) : Type 0 where
   pub c : Case
   pub is-read : read s ≡ next c (r .length)
   pub holds : r .case ≡ held c
   pub fits : Fits c
+
+-- a record lies within the bytes that it is read from
+pub read-within : (s : List ℕ) → Bytes s → (c : Case) (i : ℕ) → read s ≡ next c i → i ≤ length s
+read-within s b c i e =
+    let R : Readable s c i = readable s b c i e in
+    omega (arith, R .length, length-append (recordOf c) (drop i s), ap length (R .whole))
 
 -- the struct means the case
 module _ {s : List ℕ} {r : Reading} (f : Found s r) where
@@ -60,17 +64,3 @@ missed s r e z = go (read s) refl e
     go : (o : Out Case) → read s ≡ o → r ≡ readingOf o → read s ≡ stop (r .number) (r .place)
     go (stop x p) g e = g ∙ (λ i. stop (sym e i .number) (sym e i .place))
     go (next c j) g e = absurd (z (ap (λ (q : Reading). q .number) e))
-
--- a reading as the answer that callers get
-pub read-shown :
-    (o : Out Case) (r : Reading) → r ≡ readingOf o
-    → _≡_ {A = CaseAnswer}
-    (record { answer = record { number = r .number; place = r .place; length = r .length; finals = replicate mostAddresses 0 }; case = r .case }) (caseShown o)
-unfolding readingOf caseShown
-read-shown o r e = go o r e
-  where
-    go : (o : Out Case) (r : Reading) → r ≡ readingOf o
-        → _≡_ {A = CaseAnswer}
-        (record { answer = record { number = r .number; place = r .place; length = r .length; finals = replicate mostAddresses 0 }; case = r .case }) (caseShown o)
-    go (stop x p) r e = λ i. record { answer = record { number = e i .number; place = e i .place; length = e i .length; finals = replicate mostAddresses 0 }; case = e i .case }
-    go (next c j) r e = λ i. record { answer = record { number = e i .number; place = e i .place; length = e i .length; finals = replicate mostAddresses 0 }; case = e i .case }

@@ -1,0 +1,20 @@
+-- The first event in which two rows differ.
+-- Assumes nothing.
+use Prim.Native.Nat.{ℕ, _<_}
+use mathlib.Core.Path.{_≡_}
+use mathlib.Core.Bool.{true, false}
+use Rattle.bits.specs.Bit.{bit}
+
+-- of the events below k that are in one of the rows alone, the first is in s
+pub record FirstIn (k s t : ℕ) : Type 0 where
+  pub event : ℕ
+  pub below : event < k
+  pub has : bit s event ≡ true
+  pub lacks : bit t event ≡ false
+  pub same : (e : ℕ) → e < event → bit s e ≡ bit t e
+
+-- 1 says that it is in s, 2 that it is in t; any other number says that there is none
+pub record Alone (k s t r : ℕ) : Type 0 where
+  pub first : r ≡ 1 → FirstIn k s t
+  pub second : r ≡ 2 → FirstIn k t s
+  pub none : (r ≡ 1 → ⊥) → (r ≡ 2 → ⊥) → (e : ℕ) → e < k → bit s e ≡ bit t e

@@ -1,0 +1,3 @@
+pub mod Fields
+pub mod Better
+pub mod Best
