@@ -128,6 +128,43 @@ litmus_answer litmus_renumber(const uint8_t *record, size_t size, uint64_t threa
                               uint64_t addresses, uint8_t *out, size_t room, uint64_t at);
 
 /*
+ * The class of a record is the record and all its renumberings, by every two permutations that fit.
+ * All records of a class have one length. The class's representative is the least of them, compared
+ * byte by byte: the first byte that differs decides. So two readable records have one
+ * representative exactly when one is a renumbering of the other, which is when they are the same
+ * but for the labels of threads and addresses.
+ */
+
+/*
+ * Writes the representative of the record's class into out from the byte `at` onward: 0 with the
+ * length, which is also the record's. Of a representative it is that record itself.
+ *
+ * Checked in this order: the record (1 to 4), its name (23), room (6). Only the record's bytes are
+ * written; under a refusal none is. out and record must be different buffers that do not overlap.
+ */
+litmus_answer litmus_representative(const uint8_t *record, size_t size, uint8_t *out, size_t room,
+                                    uint64_t at);
+
+/*
+ * One of two records.
+ *
+ * which    1 for the first, 2 for the second, 0 for neither
+ * length   how many bytes that record takes; 0 for neither
+ */
+typedef struct {
+    uint32_t which;
+    uint64_t length;
+} litmus_choice;
+
+/*
+ * The lesser of two records, compared byte by byte, and the first where they are equal; neither
+ * where litmus_read refuses one of them. Bytes behind a record have no say. first and second may
+ * overlap, or be the same.
+ */
+litmus_choice litmus_lesser(const uint8_t *first, size_t first_size, const uint8_t *second,
+                            size_t second_size);
+
+/*
  * Where the record's name lies, whose bytes are 32 to 126; at 0 and of length 0 where litmus_read
  * refuses the bytes.
  */
@@ -216,6 +253,12 @@ litmus_answer litmus_case_judge(litmus_case c, uint64_t model);
  * (5).
  */
 litmus_case_answer litmus_case_renumber(litmus_case c, uint64_t threads, uint64_t addresses);
+
+/*
+ * The case of the representative, as for litmus_representative of the case's record: 0 with the
+ * length of its record, or the case's 3, 4 or 23.
+ */
+litmus_case_answer litmus_case_representative(litmus_case c);
 
 /*
  * The number of the permutation that is first one and then the other. A number above 23 counts as

@@ -42,6 +42,16 @@ impl Part {
     }
 }
 
+/// One of two records, as in `litmus.h`.
+#[repr(C)]
+#[derive(Clone, Copy, Debug, PartialEq, Eq)]
+pub struct Choice {
+    /// 1 for the first, 2 for the second, 0 for neither.
+    pub which: u32,
+    /// How many bytes that record takes.
+    pub length: u64,
+}
+
 /// What a number means, in words.
 pub fn meaning(number: u32) -> &'static str {
     match number {

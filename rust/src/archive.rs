@@ -1,6 +1,6 @@
 //! The functions of `litmus.h`.
 
-use crate::{Answer, Case, CaseAnswer, Part, Rows};
+use crate::{Answer, Case, CaseAnswer, Choice, Part, Rows};
 
 // Not bundled, so that the wrapper itself, and a program that calls none of these, builds without
 // the archive.
@@ -17,6 +17,19 @@ extern "C" {
         room: usize,
         at: u64,
     ) -> Answer;
+    pub fn litmus_representative(
+        record: *const u8,
+        size: usize,
+        out: *mut u8,
+        room: usize,
+        at: u64,
+    ) -> Answer;
+    pub fn litmus_lesser(
+        first: *const u8,
+        first_size: usize,
+        second: *const u8,
+        second_size: usize,
+    ) -> Choice;
     pub fn litmus_name(record: *const u8, size: usize) -> Part;
     pub fn litmus_judged_name(record: *const u8, size: usize, model: u64) -> Part;
     pub fn litmus_renumbered_name(
@@ -31,6 +44,7 @@ extern "C" {
     pub fn litmus_case_write(c: Case, out: *mut u8, room: usize, at: u64) -> Answer;
     pub fn litmus_case_judge(c: Case, model: u64) -> Answer;
     pub fn litmus_case_renumber(c: Case, threads: u64, addresses: u64) -> CaseAnswer;
+    pub fn litmus_case_representative(c: Case) -> CaseAnswer;
     pub fn litmus_composite(first: u64, then: u64) -> u64;
     pub fn litmus_inverse(q: u64) -> u64;
     pub fn litmus_fits(q: u64, labels: usize) -> bool;

@@ -153,6 +153,16 @@ impl Case {
         }
     }
 
+    /// The case of the [`representative`](crate::representative): of the case and all its
+    /// renumberings the one with the least record.
+    pub fn representative(&self) -> Result<Case, Refusal> {
+        let CaseAnswer { answer, case } = self.representative_raw();
+        match answer.number {
+            0 => Ok(case),
+            _ => Err(Refusal::of_case(answer)),
+        }
+    }
+
     /// [`Case::read`] with the library's own answer.
     pub fn read_raw(record: &[u8]) -> CaseAnswer {
         // SAFETY: pointer and length are a slice's, which the call only reads.
@@ -175,5 +185,11 @@ impl Case {
     pub fn renumber_raw(&self, threads: u64, addresses: u64) -> CaseAnswer {
         // SAFETY: the function takes any case and any numbers.
         unsafe { archive::litmus_case_renumber(*self, threads, addresses) }
+    }
+
+    /// [`Case::representative`] with the library's own answer.
+    pub fn representative_raw(&self) -> CaseAnswer {
+        // SAFETY: the function takes any case.
+        unsafe { archive::litmus_case_representative(*self) }
     }
 }

@@ -38,9 +38,12 @@
 mod answer;
 mod archive;
 mod case;
+mod class;
 
-pub use answer::{meaning, Answer, CaseAnswer, Finals, Part, Refusal, Rule, Verdict};
+pub use answer::{meaning, Answer, CaseAnswer, Choice, Finals, Part, Refusal, Rule, Verdict};
 pub use case::Case;
+pub use class::{compared, compared_raw, lesser, representative, representative_raw};
+pub use class::{same_class, write_representative, Lesser};
 
 use std::fmt;
 
