@@ -5,11 +5,13 @@ mod damage;
 mod names;
 mod program;
 mod sparse;
+mod tied;
 
 pub use calls::{any_buffer, any_permutation};
 pub use damage::damaged;
 pub use names::{every_byte_of_a_name, printable};
 pub use sparse::{sparse, Duty};
+pub use tied::{counts_apart, last_rows_apart, one_event_off, relabelled, tied};
 
 use crate::case::{Case, Event, Kind, Order};
 use crate::limits::{

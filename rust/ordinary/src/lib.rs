@@ -13,6 +13,7 @@ pub mod permutation;
 pub mod random;
 pub mod read;
 pub mod renumber;
+pub mod representative;
 pub mod rows;
 pub mod tally;
 pub mod text;

@@ -1,6 +1,11 @@
-//! A quick reader and judge: an event set is a `u64`, and an order has a row of bits an event.
+//! A quick reader and judge: an event set is a `u64`, and an order has a row of bits an event. Beside
+//! them, representatives without a search.
 //!
 //! It is the benchmark's yardstick: ordinary optimised Rust.
+
+mod representative;
+
+pub use representative::representative;
 
 use crate::answer::{Answer, Refusal, ENDS, FORM, MISPLACED, MODEL, RANGE, UNPRINTABLE};
 use crate::case::{Class, Kind};

@@ -1,13 +1,13 @@
 //! The quick implementation against the plain one, and what the generators promise.
 
-use ordinary::answer::{Refusal, MISPLACED, UNPRINTABLE};
+use ordinary::answer::{Refusal, MISPLACED, OF_READING, ROOM, UNPRINTABLE};
 use ordinary::generate::{self, Duty};
 use ordinary::judge::{judge, judge_case, verdict, PPCS, PPCW};
 use ordinary::judge::{verdict_with_syncs, verdict_without_dependencies};
 use ordinary::limits::{most_bytes, EDITIONS, EVENTS, FIRST, GROUPS, SECOND};
 use ordinary::random::Random;
 use ordinary::tally::{edition_name, model_name, Tally};
-use ordinary::{permutation, read, renumber, rows, write, Case};
+use ordinary::{permutation, read, renumber, representative, rows, write, Case};
 
 const MODELS: [u64; 2] = [PPCW, PPCS];
 
@@ -212,6 +212,28 @@ fn renumbering_back_gives_the_same_bytes() {
     for edition in EDITIONS {
         tally.assert_each(edition_name(edition), [1], 100);
     }
+}
+
+/// Sorting a record's parts gives the least of all its renumberings, whatever buffer it goes to.
+#[test]
+fn sorted_parts_are_the_least_renumbering() {
+    let mut random = Random::new(10);
+    let mut tally = Tally::default();
+    for i in 0..4_000 {
+        let record = match i % 4 {
+            0 => generate::any_record(&mut random),
+            _ => write::record(&generate::tied(&mut random)),
+        };
+        let (mut out, at) = generate::any_buffer(&mut random, record.len());
+        let mut quick = out.clone();
+        let answer = representative::representative(&record, &mut out, at as usize);
+        let quickly = rows::representative(&record, &mut quick, at as usize);
+        assert_eq!((quickly, &quick), (answer, &out), "{record:?} from {at}");
+        tally.add("representatives", answer.number);
+    }
+    println!("{tally}");
+    tally.assert_each("representatives", OF_READING, 10);
+    tally.assert_each("representatives", [ROOM], 100);
 }
 
 /// In the first edition dependencies are spare room: nothing asks for them.
