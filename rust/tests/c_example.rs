@@ -1,6 +1,6 @@
 //! The C examples, compiled against the header and the archive, and how C lays out a case.
 
-use litmus::{Case, CaseAnswer};
+use litmus::{Case, CaseAnswer, Choice};
 use std::fs;
 use std::mem::{offset_of, size_of};
 use std::path::{Path, PathBuf};
@@ -118,7 +118,7 @@ fn cpp_builds_a_case() {
     }
 }
 
-/// Every field of a case lies in C where it lies in Rust.
+/// Every field of a case, and of a choice, lies in C where it lies in Rust.
 #[test]
 fn cases_lie_alike() {
     let mut places = vec![size_of::<Case>(), size_of::<CaseAnswer>()];
@@ -133,6 +133,8 @@ fn cases_lie_alike() {
     field!(dependency_class dependency_from dependency_to writes rows name name_length);
     places.push(offset_of!(CaseAnswer, case));
     lines += "at(offsetof(litmus_case_answer, result));\n";
+    places.extend([size_of::<Choice>(), offset_of!(Choice, length)]);
+    lines += "at(sizeof(litmus_choice));\nat(offsetof(litmus_choice, length));\n";
     let source = temporary("layout.c");
     let text = format!(
         "#include \"litmus.h\"\n#include <stdio.h>\n\

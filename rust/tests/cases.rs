@@ -26,6 +26,10 @@ use ordinary::read;
 use ordinary::tally::{edition_name, stated_edition, Tally};
 
 const INPUTS: usize = 50_000;
+/// The most events of a case that the other implementation is asked for the representative of.
+const FEW_EVENTS: usize = 24;
+/// The heading of representatives that are the case itself, 0, or another one, 1.
+const MOVED: &str = "representatives that are another case";
 
 /// Hands cases to every call, and counts what they answer.
 struct Calls {
@@ -47,6 +51,7 @@ impl Calls {
         self.judge(case, &handed);
         self.write(case, &handed);
         self.renumber(case, &handed);
+        self.representative(case, &handed);
         self.tally.add_unfit(&handed.bytes);
         handed.fault()
     }
@@ -63,7 +68,7 @@ impl Calls {
     /// With just enough room and a byte too few, at the front, further on and past the end, and into
     /// any buffer.
     fn write(&mut self, case: &Case, handed: &Handed) {
-        let [_, heading, _] = headings(case.edition);
+        let [_, heading, ..] = headings(case.edition);
         let length = handed.bytes.len();
         let buffers = [
             (length, 0),
@@ -87,7 +92,7 @@ impl Calls {
     }
 
     fn renumber(&mut self, case: &Case, handed: &Handed) {
-        let [.., heading] = headings(case.edition);
+        let [.., heading, _] = headings(case.edition);
         let random = &mut self.random;
         let any = [(); 3].map(|()| {
             let q = any_permutation(random, case.threads.min(THREADS));
@@ -102,25 +107,46 @@ impl Calls {
             self.tally.add(heading, answer.number);
         }
     }
+
+    /// Of every case that is refused. The other implementation takes long for the rest: of few, and
+    /// of none with many events.
+    fn representative(&mut self, case: &Case, handed: &Handed) {
+        if handed.fault() == 0 && (case.events > FEW_EVENTS || !self.random.once_in(32)) {
+            return;
+        }
+        let [.., heading] = headings(case.edition);
+        let (expected, least) = handed.representative();
+        let CaseAnswer { answer, case: new } = case.representative_raw();
+        assert_eq!(plain(answer), expected, "{case:?}");
+        assert!(new == least, "{case:?}: {new:?}");
+        self.tally.add(heading, answer.number);
+        if answer.number == 0 {
+            let moved = new.record().as_ref() != Ok(&handed.bytes);
+            self.tally.add(MOVED, u32::from(moved));
+        }
+    }
 }
 
-/// Of judging, writing and renumbering.
-fn headings(edition: u64) -> [&'static str; 3] {
+/// Of judging, writing, renumbering and representatives.
+fn headings(edition: u64) -> [&'static str; 4] {
     match u32::try_from(edition) {
         Ok(FIRST) => [
             "judging edition 1",
             "writing edition 1",
             "renumbering edition 1",
+            "representatives of edition 1",
         ],
         Ok(SECOND) => [
             "judging edition 2",
             "writing edition 2",
             "renumbering edition 2",
+            "representatives of edition 2",
         ],
         _ => [
             "judging no edition",
             "writing no edition",
             "renumbering no edition",
+            "representatives of no edition",
         ],
     }
 }
@@ -141,14 +167,16 @@ fn any_numbers() {
     let tally = &calls.tally;
     println!("{INPUTS} cases and what they were changed to:\n{tally}");
     for edition in EDITIONS {
-        let [judging, writing, renumbering] = headings(edition.into());
+        let [judging, writing, renumbering, representatives] = headings(edition.into());
         for heading in [judging, writing, renumbering] {
             tally.assert_each(heading, [0, RANGE, MISPLACED, UNPRINTABLE], 1_000);
         }
+        tally.assert_each(representatives, [0, RANGE, MISPLACED, UNPRINTABLE], 400);
         tally.assert_each(judging, RULES.chain([MODEL]), 400);
         tally.assert_each(writing, [ROOM], 1_000);
         tally.assert_each(renumbering, [PERMUTATION], 1_000);
     }
+    tally.assert_each(MOVED, [0, 1], 400);
     for heading in headings(0) {
         tally.assert_each(heading, [RANGE], 1_000);
     }

@@ -1,7 +1,8 @@
 //! The wrapper's own types say what the library's answers say.
 
+use litmus::{compared, lesser, representative, same_class, write_representative};
 use litmus::{judge, judge_raw, judged_name, meaning, name, read, read_raw, renumber};
-use litmus::{Answer, Case, CaseAnswer, Model, Refusal, Rule, Verdict};
+use litmus::{Answer, Case, CaseAnswer, Lesser, Model, Refusal, Rule, Verdict};
 use ordinary::answer::{MODEL, UNPRINTABLE};
 use ordinary::generate;
 use ordinary::judge::RULES;
@@ -174,6 +175,64 @@ fn renumbers_into_a_buffer() {
     };
     assert_eq!(renumber(SMALL, 6, 0, &mut out, 2), refused(5));
     assert_eq!(renumber(SMALL, 0, 0, &mut out, 6), refused(6));
+}
+
+/// A sync of thread 0, which sees nothing, and a pair that thread 1 sees; and with the threads swapped.
+const TWO_ORDERS: &[u8] = &[1, 2, 1, 0, 1, 2, 0, 0, 1, 0, 0, 1, 97];
+const SWAPPED: &[u8] = &[1, 2, 1, 0, 1, 2, 1, 1, 0, 0, 0, 1, 97];
+
+#[test]
+fn representatives() {
+    assert_eq!(representative(SWAPPED).as_deref(), Ok(TWO_ORDERS));
+    assert_eq!(representative(TWO_ORDERS).as_deref(), Ok(TWO_ORDERS));
+    let mut out = [9; 18];
+    assert_eq!(write_representative(SWAPPED, &mut out, 2), Ok(13));
+    let written = [&[9; 2], TWO_ORDERS, &[9; 3]].concat();
+    assert_eq!(out, *written);
+    let refused = |number, place| Refusal { number, place };
+    let no_room = Err(refused(6, None));
+    assert_eq!(write_representative(SWAPPED, &mut out, 6), no_room);
+    assert_eq!(write_representative(SWAPPED, &mut out, usize::MAX), no_room);
+    assert_eq!(out, *written);
+    let cut = &SWAPPED[..12];
+    let ends = refused(1, Some(12));
+    assert_eq!(representative(cut), Err(ends));
+    assert_eq!(write_representative(cut, &mut out, 6), Err(ends));
+
+    let [case, least] = [SWAPPED, TWO_ORDERS].map(|record| Case::read(record).expect("readable"));
+    assert_eq!(case.representative(), Ok(least));
+    let faulty = Case { threads: 0, ..case };
+    assert_eq!(faulty.representative(), Err(refused(3, None)));
+}
+
+#[test]
+fn one_of_two_records() {
+    let behind = [TWO_ORDERS, &[0]].concat();
+    for (first, second, which, record) in [
+        (TWO_ORDERS, SWAPPED, Some(Lesser::First), Some(TWO_ORDERS)),
+        (SWAPPED, TWO_ORDERS, Some(Lesser::Second), Some(TWO_ORDERS)),
+        (&behind, TWO_ORDERS, Some(Lesser::First), Some(TWO_ORDERS)),
+        (TWO_ORDERS, &behind, Some(Lesser::First), Some(TWO_ORDERS)),
+        (SMALL, &SMALL[1..], None, None),
+        (&[], SMALL, None, None),
+    ] {
+        assert_eq!(compared(first, second), which);
+        assert_eq!(lesser(first, second), record);
+    }
+}
+
+/// Of two that can't be read, the first one's refusal is given.
+#[test]
+fn classes_of_two() {
+    assert_eq!(same_class(TWO_ORDERS, SWAPPED), Ok(true));
+    assert_eq!(same_class(SMALL, SWAPPED), Ok(false));
+    let refused = |number, place| {
+        let place = Some(place);
+        Err(Refusal { number, place })
+    };
+    assert_eq!(same_class(SMALL, &[]), refused(1, 0));
+    assert_eq!(same_class(&[1, 9], SMALL), refused(3, 1));
+    assert_eq!(same_class(&[1, 9], &[]), refused(3, 1));
 }
 
 #[test]

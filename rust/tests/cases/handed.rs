@@ -7,6 +7,7 @@ use ordinary::answer::{FORM, MISPLACED, MODEL, RANGE, UNPRINTABLE};
 use ordinary::judge::{judge_case, PPCS};
 use ordinary::limits::{ADDRESSES, DEPENDENCIES, EVENTS, NAME, SECOND, THREADS};
 use ordinary::renumber::renumber_case;
+use ordinary::representative::representative_case;
 use ordinary::{read, write, Answer};
 
 pub struct Handed {
@@ -51,8 +52,21 @@ impl Handed {
 
     /// The answer, and the case that stands beside it.
     pub fn renumber(&self, q: u64, r: u64) -> (Answer, Case) {
-        let renumbered = self.case.as_ref().map_err(|&fault| fault);
-        match renumbered.and_then(|case| renumber_case(case, q, r)) {
+        self.given(|case| renumber_case(case, q, r))
+    }
+
+    /// The answer, and the case that stands beside it.
+    pub fn representative(&self) -> (Answer, Case) {
+        self.given(representative_case)
+    }
+
+    /// What a call gives that makes another case.
+    fn given(
+        &self,
+        call: impl Fn(&ordinary::Case) -> Result<ordinary::Case, u32>,
+    ) -> (Answer, Case) {
+        let case = self.case.as_ref().map_err(|&fault| fault);
+        match case.and_then(call) {
             Ok(new) => (Answer::done(write::size(&new)), built(&new)),
             Err(number) => (Answer::refused(number), Case::empty()),
         }
