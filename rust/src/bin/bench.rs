@@ -1,13 +1,14 @@
-//! Times the library beside an ordinary optimised reader and judge, and its two tests of rule 11
-//! beside each other, on the same input in one run.
+//! Times the library beside an ordinary optimised reader and judge, its two tests of rule 11 beside
+//! each other, and representatives beside all renumberings, on the same input in one run.
 
 #[path = "record/built.rs"]
 mod built;
 
 use built::built;
-use litmus::Rows;
+use litmus::{Rows, RECORD_BYTES};
 use ordinary::judge::PPCS;
 use ordinary::limits::{EDITIONS, EVENTS, NAME, PRINTABLE, THREADS};
+use ordinary::permutation::COUNT;
 use ordinary::random::Random;
 use ordinary::{generate, rows, Case, Kind, Order};
 use std::hint::black_box;
@@ -18,6 +19,8 @@ const INPUTS: usize = 500;
 /// How many events each of them has.
 const SIZES: [usize; 2] = [24, EVENTS];
 const ROUNDS: usize = 40;
+/// How many records are renumbered in all ways, which takes long.
+const FEW: usize = 4;
 
 fn main() {
     println!("each time is the best of {ROUNDS} rounds, which take turns\n");
@@ -27,6 +30,86 @@ fn main() {
         }
         orders(count);
     }
+    for edition in EDITIONS {
+        let cases = accepted_cases(edition, EVENTS);
+        assert!(cases.iter().all(every_thread_has_events));
+        representatives(edition, &cases, "every thread has some of them");
+        let mut random = Random::new(42);
+        let cases = (0..INPUTS).map(|_| generate::last_rows_apart(&mut random, edition, EVENTS));
+        let cases: Vec<Case> = cases.collect();
+        representatives(
+            edition,
+            &cases,
+            "all on one thread and address, orders alike up to their last row",
+        );
+    }
+}
+
+fn every_thread_has_events(case: &Case) -> bool {
+    (0..THREADS).all(|p| case.events.iter().any(|event| event.thread == p))
+}
+
+/// The representative beside the ordinary implementation's, and beside the least of all that
+/// renumbering gives.
+fn representatives(edition: u32, cases: &[Case], which: &str) {
+    let records: Vec<Vec<u8>> = cases.iter().map(record).collect();
+    let bytes: usize = records.iter().map(Vec::len).sum();
+    println!("{INPUTS} records of edition {edition}, {bytes} bytes");
+    println!("{EVENTS} events each with full orders; {which}\n");
+    for record in &records[..FEW] {
+        assert_eq!(
+            Ok(least_renumbering(record)),
+            litmus::representative(record)
+        );
+    }
+
+    let (mut out, mut ordinary_out) = (vec![0; RECORD_BYTES], vec![0; RECORD_BYTES]);
+    let search = compare(
+        &records,
+        |record| u64::from(litmus::representative_raw(record, &mut out, 0).number),
+        |record| u64::from(rows::representative(record, &mut ordinary_out, 0).number),
+    );
+    println!(
+        "representative       ours  {}",
+        each(search.first, INPUTS, "a record")
+    );
+    println!(
+        "                 ordinary  {}",
+        each(search.second, INPUTS, "a record")
+    );
+    println!("                    ratio  {:.2}\n", search.ratio());
+
+    let naive = compare(
+        &records[..FEW],
+        |record| u64::from(litmus::representative_raw(record, &mut out, 0).number),
+        |record| u64::from(black_box(least_renumbering(record)).is_empty()),
+    );
+    println!(
+        "of {FEW} of them         ours  {}",
+        each(naive.first, FEW, "a record")
+    );
+    println!(
+        "     all {} renumberings  {}",
+        COUNT * COUNT,
+        each(naive.second, FEW, "a record")
+    );
+    println!("                    ratio  {:.4}\n", naive.ratio());
+}
+
+/// The least of all that renumbering a record with the most threads and addresses gives.
+fn least_renumbering(record: &[u8]) -> Vec<u8> {
+    let mut least = record.to_vec();
+    let mut other = least.clone();
+    for q in 0..COUNT {
+        for r in 0..COUNT {
+            let answer = litmus::renumber_raw(record, q, r, &mut other, 0);
+            assert_eq!(answer.number, 0, "every permutation fits");
+            if other < least {
+                std::mem::swap(&mut least, &mut other);
+            }
+        }
+    }
+    least
 }
 
 /// By the proved writer.
@@ -62,11 +145,11 @@ fn records(edition: u32, count: usize) {
     );
     println!(
         "bytes to PPCs        ours  {}",
-        each(judging.first, "a record")
+        each(judging.first, INPUTS, "a record")
     );
     println!(
         "verdict          ordinary  {}",
-        each(judging.second, "a record")
+        each(judging.second, INPUTS, "a record")
     );
     println!("                    ratio  {:.2}\n", judging.ratio());
 }
@@ -81,8 +164,14 @@ fn orders(count: usize) {
         |rows| u64::from(litmus::rule11_by_threes(rows, THREADS, count) != Some(true)),
     );
     let unit = format!("for {THREADS} orders");
-    println!("rule 11     a row at once  {}", each(test.first, &unit));
-    println!("       every three events  {}", each(test.second, &unit));
+    println!(
+        "rule 11     a row at once  {}",
+        each(test.first, INPUTS, &unit)
+    );
+    println!(
+        "       every three events  {}",
+        each(test.second, INPUTS, &unit)
+    );
     println!("                    ratio  {:.3}\n", test.ratio());
 }
 
@@ -136,19 +225,23 @@ impl Times {
 }
 
 /// Both give 0 for every input, or the times would mean nothing.
-fn compare<T>(inputs: &[T], first: impl Fn(&T) -> u64, second: impl Fn(&T) -> u64) -> Times {
+fn compare<T>(
+    inputs: &[T],
+    mut first: impl FnMut(&T) -> u64,
+    mut second: impl FnMut(&T) -> u64,
+) -> Times {
     let mut best = Times {
         first: Duration::MAX,
         second: Duration::MAX,
     };
     for _ in 0..ROUNDS {
-        best.first = best.first.min(time(inputs, &first));
-        best.second = best.second.min(time(inputs, &second));
+        best.first = best.first.min(time(inputs, &mut first));
+        best.second = best.second.min(time(inputs, &mut second));
     }
     best
 }
 
-fn time<T>(inputs: &[T], call: impl Fn(&T) -> u64) -> Duration {
+fn time<T>(inputs: &[T], mut call: impl FnMut(&T) -> u64) -> Duration {
     let start = Instant::now();
     let total: u64 = inputs.iter().map(|input| call(black_box(input))).sum();
     let taken = start.elapsed();
@@ -161,7 +254,7 @@ fn rate(time: Duration, bytes: usize) -> String {
     format!("{:7.1} million bytes a second", per_second / 1e6)
 }
 
-fn each(time: Duration, unit: &str) -> String {
-    let micros = time.as_secs_f64() * 1e6 / INPUTS as f64;
+fn each(time: Duration, inputs: usize, unit: &str) -> String {
+    let micros = time.as_secs_f64() * 1e6 / inputs as f64;
     format!("{micros:7.3} microseconds {unit}")
 }
