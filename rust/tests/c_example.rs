@@ -88,6 +88,58 @@ fn prints_what_the_library_answers() {
     assert!(!run(&program, "no such file").status.success());
 }
 
+/// Runs it on two files in `examples/`: what it prints, its errors, and whether it ends well.
+fn run_on_two(program: &Path, files: [&str; 2]) -> (String, String, bool) {
+    let mut command = Command::new(program);
+    command.current_dir(root().join("examples")).args(files);
+    let output = command.output().expect("the example starts");
+    let [printed, errors] =
+        [output.stdout, output.stderr].map(|text| String::from_utf8_lossy(&text).into_owned());
+    (printed, errors, output.status.success())
+}
+
+#[test]
+fn files_two_records() {
+    let source = root().join("examples/c/representative.c");
+    let program = compiled(C, &source, "c_representative");
+    let expected = [
+        (
+            ["message.litmus", "message-swapped.litmus"],
+            "one case\nthe lesser: the first, 54 bytes\n",
+        ),
+        (
+            ["message-swapped.litmus", "message.litmus"],
+            "one case\nthe lesser: the second, 54 bytes\n",
+        ),
+        (
+            ["message.litmus", "message.litmus"],
+            "one case\nthe lesser: the first, 54 bytes\n",
+        ),
+        (
+            ["message-ordered.litmus", "message.litmus"],
+            "two cases\nthe lesser: the second, 54 bytes\n",
+        ),
+        (
+            ["hoist-lwsync.litmus", "dekker.litmus"],
+            "two cases\nthe lesser: the second, 77 bytes\n",
+        ),
+    ];
+    for (files, lines) in expected {
+        let found = run_on_two(&program, files);
+        assert_eq!(found, (lines.to_string(), String::new(), true), "{files:?}");
+    }
+    for (files, errors) in [
+        (
+            ["README.md", "none"],
+            "README.md: refused with 3 at byte 0\n",
+        ),
+        (["small.litmus", "none"], "none: it can't be opened\n"),
+    ] {
+        let found = run_on_two(&program, files);
+        assert_eq!(found, (String::new(), errors.to_string(), false));
+    }
+}
+
 /// The case that C builds is judged and written as the example of its name is.
 fn builds_a_case(compiler: &[&str], name: &str) {
     let program = compiled(compiler, &root().join("examples/c/case.c"), name);
