@@ -8,7 +8,7 @@ use mathlib.Core.Bool.{Bool, true, false, cond, _&&_}
 use mathlib.Core.Logic.{_↔_}
 use mathlib.Core.List.{List, [], _∷_, _++_}
 use lib.Dec.{T}
-use lib.ListN.{length, take}
+use lib.ListN.{length, take, length-append}
 use Rattle.finite.specs.Lists.{table, All}
 use Rattle.finite.proofs.Tests.{T-true, T-and, and-left, and-right}
 use Rattle.finite.proofs.All.{all-append}
@@ -32,7 +32,7 @@ use Rattle.laws.proofs.ExactCase.{readable, record-injective}
 use Rattle.laws.proofs.Composition.{renumber-identity, renumber-composite, renumber-inverse}
 use Rattle.laws.proofs.Refits.{refits, same-length}
 use Rattle.laws.proofs.Renumbered.{verdict-stays, finals-move}
-use Rattle.laws.proofs.Claim.{Fitting, judging-gives, judging-case, front}
+use Rattle.laws.proofs.Claim.{read-alone, Fitting, judging-gives, judging-case, front}
 use Rattle.classes.specs.Order.{atMost}
 use Rattle.classes.specs.Representative.{gather, below, renumberings, lesserCase, leastOf, representative, Renumbering, representativeOut, representativeRecord, representativeCase, choiceRead, choice, chosen, lesser}
 use Rattle.classes.proofs.Order.{at-most-same, at-most-trans, at-most-both, at-most-other}
@@ -290,6 +290,16 @@ pub renumbering-bytes :
 renumbering-bytes t l c d j g R = front t d j (readable t l d j g) ∙ ap recordOf (R .is)
 
 -- ---- the comparison of two records
+
+abbrev read-length : Out Case → ℕ
+read-length (stop x p) = 0
+read-length (next c i) = i
+
+-- no record is the front of another: that one ends before a byte differs never decides
+pub no-front : (c d : Case) → Fits c → Fits d → (t : List ℕ) → recordOf d ≡ recordOf c ++ t → length t ≡ 0
+no-front c d F G t e =
+    let same : length (recordOf d) ≡ length (recordOf c) = ap read-length (sym (read-alone d G) ∙ ap read e ∙ read-back c F t) in
+    omega (arith, same, ap length e, length-append (recordOf c) t)
 
 module _ (s t : List ℕ) (c d : Case) (i j : ℕ) (e : read s ≡ next c i) (g : read t ≡ next d j) where
   -- it is one of the two records, and at most either
