@@ -21,6 +21,7 @@ const SIZES: [usize; 2] = [24, EVENTS];
 const ROUNDS: usize = 40;
 /// How many records are renumbered in all ways, which takes long.
 const FEW: usize = 2;
+const ORDINARY: &str = "                 ordinary";
 
 fn main() {
     println!("each time is the best of {ROUNDS} rounds, which take turns\n");
@@ -71,31 +72,17 @@ fn representatives(edition: u32, cases: &[Case], which: &str) {
         |record| u64::from(litmus::representative_raw(record, &mut out, 0).number),
         |record| u64::from(rows::representative(record, &mut ordinary_out, 0).number),
     );
-    println!(
-        "representative       ours  {}",
-        each(search.first, INPUTS, "a record")
-    );
-    println!(
-        "                 ordinary  {}",
-        each(search.second, INPUTS, "a record")
-    );
-    println!("                    ratio  {:.2}\n", search.ratio());
+    let unit = |time| each(time, INPUTS, "a record");
+    search.print(["representative       ours", ORDINARY], unit, 2);
 
     let naive = compare(
         &records[..FEW],
         |record| u64::from(litmus::representative_raw(record, &mut out, 0).number),
         |record| u64::from(black_box(least_renumbering(record)).is_empty()),
     );
-    println!(
-        "of {FEW} of them         ours  {}",
-        each(naive.first, FEW, "a record")
-    );
-    println!(
-        "     all {} renumberings  {}",
-        COUNT * COUNT,
-        each(naive.second, FEW, "a record")
-    );
-    println!("                    ratio  {:.4}\n", naive.ratio());
+    let ours = format!("of {FEW} of them         ours");
+    let all = format!("     all {} renumberings", COUNT * COUNT);
+    naive.print([&ours, &all], |time| each(time, FEW, "a record"), 4);
 }
 
 /// The least of all that renumbering a record with the most threads and addresses gives.
@@ -136,24 +123,19 @@ fn records(edition: u32, count: usize) {
         |record| u64::from(litmus::read_raw(record).number),
         |record| black_box(rows::read(record)).map_or(1, |_| 0),
     );
-    println!("reading              ours  {}", rate(reading.first, bytes));
-    println!("                 ordinary  {}", rate(reading.second, bytes));
-    println!("                    ratio  {:.2}\n", reading.ratio());
+    reading.print(
+        ["reading              ours", ORDINARY],
+        |time| rate(time, bytes),
+        2,
+    );
 
     let judging = compare(
         &records,
         |record| u64::from(litmus::judge_raw(record, PPCS).number),
         |record| u64::from(rows::judge(record, PPCS).number),
     );
-    println!(
-        "bytes to PPCs        ours  {}",
-        each(judging.first, INPUTS, "a record")
-    );
-    println!(
-        "verdict          ordinary  {}",
-        each(judging.second, INPUTS, "a record")
-    );
-    println!("                    ratio  {:.2}\n", judging.ratio());
+    let heads = ["bytes to PPCs        ours", "verdict          ordinary"];
+    judging.print(heads, |time| each(time, INPUTS, "a record"), 2);
 }
 
 /// Rule 11 alone: the test that judging uses beside the plain one.
@@ -166,15 +148,8 @@ fn orders(count: usize) {
         |rows| u64::from(litmus::rule11_by_threes(rows, THREADS, count) != Some(true)),
     );
     let unit = format!("for {THREADS} orders");
-    println!(
-        "rule 11     a row at once  {}",
-        each(test.first, INPUTS, &unit)
-    );
-    println!(
-        "       every three events  {}",
-        each(test.second, INPUTS, &unit)
-    );
-    println!("                    ratio  {:.3}\n", test.ratio());
+    let heads = ["rule 11     a row at once", "       every three events"];
+    test.print(heads, |time| each(time, INPUTS, &unit), 3);
 }
 
 fn accepted_cases(edition: u32, count: usize) -> Vec<Case> {
@@ -223,6 +198,13 @@ struct Times {
 impl Times {
     fn ratio(&self) -> f64 {
         self.first.as_secs_f64() / self.second.as_secs_f64()
+    }
+
+    /// A line for each and one for the ratio, with so many decimals.
+    fn print(&self, heads: [&str; 2], shown: impl Fn(Duration) -> String, decimals: usize) {
+        println!("{}  {}", heads[0], shown(self.first));
+        println!("{}  {}", heads[1], shown(self.second));
+        println!("                    ratio  {:.decimals$}\n", self.ratio());
     }
 }
 
