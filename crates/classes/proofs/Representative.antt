@@ -49,12 +49,12 @@ back-all P (a ∷ s) t h = back-all P s t (h .1)
 
 module _ {B : Type 0} (P : B → Type 0) (f : ℕ → List B) where
   -- what is gathered of the numbers from i on
-  pub all-gather : (i j : ℕ) → ((x : ℕ) → All P (f x)) → All P (gather f (table i j (λ x. x)))
+  all-gather : (i j : ℕ) → ((x : ℕ) → All P (f x)) → All P (gather f (table i j (λ x. x)))
   unfolding gather table
   all-gather i zero h = tt
   all-gather i (suc j) h = all-append P (f i) _ (h i) (all-gather (suc i) j h)
 
-  pub gather-at : (i j x : ℕ) → i ≤ x → x < i + j → All P (gather f (table i j (λ x. x))) → All P (f x)
+  gather-at : (i j x : ℕ) → i ≤ x → x < i + j → All P (gather f (table i j (λ x. x))) → All P (f x)
   unfolding gather table
   gather-at i zero x l h a = absurd (omega arith)
   gather-at i (suc j) x l h a = by (decLt i x) (gather-at (suc i) j x)
@@ -74,34 +74,35 @@ module _ (P : Case → Type 0) where
       go true = p
       go false = q
 
-  pub least-holds : (c : Case) (ds : List Case) → P c → All P ds → P (leastOf c ds)
+  least-holds : (c : Case) (ds : List Case) → P c → All P ds → P (leastOf c ds)
   unfolding leastOf
   least-holds c [] p h = p
   least-holds c (d ∷ ds) p h = least-holds (lesserCase c d) ds (lesser-holds c d p (h .0)) (h .1)
 
-abbrev pub Least : Case → Case → Type 0
-Least c d = atMost (recordOf c) (recordOf d) ≡ true
+-- c's record is at most d's
+abbrev AtMost : Case → Case → Type 0
+AtMost c d = atMost (recordOf c) (recordOf d) ≡ true
 
-case-first : (c d : Case) → Least (lesserCase c d) c
+case-first : (c d : Case) → AtMost (lesserCase c d) c
 case-first c d = go (atMost (recordOf c) (recordOf d)) refl
   where
-    go : (b : Bool) → atMost (recordOf c) (recordOf d) ≡ b → Least (cond b c d) c
+    go : (b : Bool) → atMost (recordOf c) (recordOf d) ≡ b → AtMost (cond b c d) c
     go true e = at-most-same (recordOf c)
     go false e = at-most-other (recordOf c) (recordOf d) e
 
-case-second : (c d : Case) → Least (lesserCase c d) d
+case-second : (c d : Case) → AtMost (lesserCase c d) d
 case-second c d = go (atMost (recordOf c) (recordOf d)) refl
   where
-    go : (b : Bool) → atMost (recordOf c) (recordOf d) ≡ b → Least (cond b c d) d
+    go : (b : Bool) → atMost (recordOf c) (recordOf d) ≡ b → AtMost (cond b c d) d
     go true e = e
     go false e = at-most-same (recordOf d)
 
-least-first : (c : Case) (ds : List Case) → Least (leastOf c ds) c
+least-first : (c : Case) (ds : List Case) → AtMost (leastOf c ds) c
 unfolding leastOf
 least-first c [] = at-most-same (recordOf c)
 least-first c (d ∷ ds) = at-most-trans _ _ _ (least-first (lesserCase c d) ds) (case-first c d)
 
-pub least-rest : (c : Case) (ds : List Case) → All (Least (leastOf c ds)) ds
+least-rest : (c : Case) (ds : List Case) → All (AtMost (leastOf c ds)) ds
 unfolding leastOf
 least-rest c [] = tt
 least-rest c (d ∷ ds) = (at-most-trans _ _ _ (least-first (lesserCase c d) ds) (case-second c d), least-rest (lesserCase c d) ds)
@@ -119,14 +120,14 @@ module _ (c : Case) where
           (record { q = q; r = r; threads = and-left (fits q (c .n)) (fits r (c .m)) t; addresses = and-right (fits q (c .n)) (fits r (c .m)) t; is = refl }, tt)
       go false e = tt
 
-  pub all-renumberings : All (Renumbering c) (renumberings c)
+  all-renumberings : All (Renumbering c) (renumberings c)
   unfolding renumberings
   all-renumberings =
       all-gather (Renumbering c) (λ q. gather (λ r. cond (fitting q r c) (renumber q r c ∷ []) []) (below permutations)) 0 permutations
       (λ q. all-gather (Renumbering c) (λ r. cond (fitting q r c) (renumber q r c ∷ []) []) 0 permutations (λ r. one-pair q r))
 
   -- what holds of each of them holds of each renumbering
-  pub renumbering-among : (P : Case → Type 0) → All P (renumberings c) → (d : Case) → Renumbering c d → P d
+  renumbering-among : (P : Case → Type 0) → All P (renumberings c) → (d : Case) → Renumbering c d → P d
   unfolding renumberings fitting
   renumbering-among P h d R =
       let q : ℕ = R .q in
@@ -138,7 +139,7 @@ module _ (c : Case) where
       let here : All P (cond true (renumber q r c ∷ []) []) = subst (λ (b : Bool). All P (cond b (renumber q r c ∷ []) [])) fit by-r in
       subst P (sym (R .is)) (here .0)
 
-pub renumbering-itself : (c : Case) → Fits c → Renumbering c c
+renumbering-itself : (c : Case) → Fits c → Renumbering c c
 renumbering-itself c F = record { q = 0; r = 0; threads = fits-identity (c .n); addresses = fits-identity (c .m); is = sym (renumber-identity c F) }
 
 pub renumbering-fits : (c d : Case) → Fits c → Renumbering c d → Fits d
@@ -181,7 +182,7 @@ module _ (c : Case) (F : Fits c) where
   -- and none is less
   pub representative-least : (d : Case) → Renumbering c d → atMost (recordOf (representative c)) (recordOf d) ≡ true
   unfolding representative
-  representative-least = renumbering-among c (Least (leastOf c (renumberings c))) (least-rest c (renumberings c))
+  representative-least = renumbering-among c (AtMost (leastOf c (renumberings c))) (least-rest c (renumberings c))
 
   pub representative-fits : Fits (representative c)
   representative-fits = renumbering-fits c (representative c) F representative-is

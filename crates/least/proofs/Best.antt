@@ -85,7 +85,7 @@ module _ (q kind thread address value : ℕ) where
       go false e = refl
 
 module _ (c : Held) where
-  pub threads-part : (q : ℕ) → fits q (c .threads) ≡ true → threadBytes (caseOf c) q ++ ordersBytes (caseOf c) q ≡ threadsPart (c .thread) (c .rows) (c .threads) (c .events) q
+  threads-part : (q : ℕ) → fits q (c .threads) ≡ true → threadBytes (caseOf c) q ++ ordersBytes (caseOf c) q ≡ threadsPart (c .thread) (c .rows) (c .threads) (c .events) q
   unfolding caseOf eventsOf threadsPart threadAt orderAt
   threads-part q h =
       ap₂ (λ (x y : List ℕ). x ++ y)
@@ -93,7 +93,7 @@ module _ (c : Held) where
       ∙ run-same (c .events) _ _ (λ e l. thread-field q (getD (c .kind) e 0) (getD (c .thread) e 0) (getD (c .address) e 0) (getD (c .value) e 0)))
       (moved-run (orderBytes (c .events)) q (c .threads) h [] (order (c .events) (c .rows)))
 
-  pub addresses-part : (r : ℕ) → fits r (c .addresses) ≡ true → initialBytes (caseOf c) r ++ addressBytes (caseOf c) r ≡ addressesPart (c .initial) (c .kind) (c .address) (c .addresses) (c .events) r
+  addresses-part : (r : ℕ) → fits r (c .addresses) ≡ true → initialBytes (caseOf c) r ++ addressBytes (caseOf c) r ≡ addressesPart (c .initial) (c .kind) (c .address) (c .addresses) (c .events) r
   unfolding caseOf eventsOf addressesPart initialAt addressAt
   addresses-part r h =
       ap₂ (λ (x y : List ℕ). x ++ y)
