@@ -9,9 +9,9 @@ use mathlib.Core.Logic.{_↔_}
 use mathlib.Core.List.{List, [], _∷_, _++_}
 use lib.Dec.{T}
 use lib.ListN.{length, take, length-append}
-use Rattle.finite.specs.Lists.{table, All}
+use Rattle.finite.specs.Lists.{table, each, All}
 use Rattle.finite.proofs.Tests.{T-true, T-and, and-left, and-right}
-use Rattle.finite.proofs.All.{all-append}
+use Rattle.finite.proofs.All.{all-append, all-front, all-back}
 use Rattle.number.specs.Number.{Bytes}
 use Rattle.number.specs.Reader.{Out, stop, next}
 use Rattle.permutation.specs.Permutation.{permutations, inverse, composite, fits}
@@ -34,35 +34,27 @@ use Rattle.laws.proofs.Refits.{refits, same-length}
 use Rattle.laws.proofs.Renumbered.{verdict-stays, finals-move}
 use Rattle.laws.proofs.Claim.{read-alone, Fitting, judging-gives, judging-case, front}
 use Rattle.classes.specs.Order.{atMost}
-use Rattle.classes.specs.Representative.{gather, below, renumberings, lesserCase, leastOf, representative, Renumbering, representativeOut, representativeRecord, representativeCase, choiceRead, choice, chosen, lesser}
+use Rattle.classes.specs.Representative.{below, renumberings, lesserCase, leastOf, representative, Renumbering, representativeOut, representativeRecord, representativeCase, choiceRead, choice, chosen, lesser}
 use Rattle.classes.proofs.Order.{at-most-same, at-most-trans, at-most-both, at-most-other}
 
 -- ---- lists
 
-front-all : {A : Type 0} (P : A → Type 0) (s t : List A) → All P (s ++ t) → All P s
-front-all P [] t h = tt
-front-all P (a ∷ s) t h = (h .0, front-all P s t (h .1))
-
-back-all : {A : Type 0} (P : A → Type 0) (s t : List A) → All P (s ++ t) → All P t
-back-all P [] t h = h
-back-all P (a ∷ s) t h = back-all P s t (h .1)
-
 module _ {B : Type 0} (P : B → Type 0) (f : ℕ → List B) where
-  -- what is gathered of the numbers from i on
-  all-gather : (i j : ℕ) → ((x : ℕ) → All P (f x)) → All P (gather f (table i j (λ x. x)))
-  unfolding gather table
-  all-gather i zero h = tt
-  all-gather i (suc j) h = all-append P (f i) _ (h i) (all-gather (suc i) j h)
+  -- what f gives for the numbers from i on
+  all-each : (i j : ℕ) → ((x : ℕ) → All P (f x)) → All P (each f (table i j (λ x. x)))
+  unfolding each table
+  all-each i zero h = tt
+  all-each i (suc j) h = all-append P (f i) _ (h i) (all-each (suc i) j h)
 
-  gather-at : (i j x : ℕ) → i ≤ x → x < i + j → All P (gather f (table i j (λ x. x))) → All P (f x)
-  unfolding gather table
-  gather-at i zero x l h a = absurd (omega arith)
-  gather-at i (suc j) x l h a = by (decLt i x) (gather-at (suc i) j x)
+  each-at : (i j x : ℕ) → i ≤ x → x < i + j → All P (each f (table i j (λ x. x))) → All P (f x)
+  unfolding each table
+  each-at i zero x l h a = absurd (omega arith)
+  each-at i (suc j) x l h a = by (decLt i x) (each-at (suc i) j x)
     where
       by :
-          Dec (i < x) → (suc i ≤ x → x < suc i + j → All P (gather f (table (suc i) j (λ x. x))) → All P (f x)) → All P (f x)
-      by (yes m) ih = ih m (omega arith) (back-all P (f i) _ a)
-      by (no n) ih = let e : i ≡ x = omega arith in subst (λ (y : ℕ). All P (f y)) e (front-all P (f i) _ a)
+          Dec (i < x) → (suc i ≤ x → x < suc i + j → All P (each f (table (suc i) j (λ x. x))) → All P (f x)) → All P (f x)
+      by (yes m) ih = ih m (omega arith) (all-back P (f i) _ a)
+      by (no n) ih = let e : i ≡ x = omega arith in subst (λ (y : ℕ). All P (f y)) e (all-front P (f i) _ a)
 
 -- ---- the least of some cases
 
@@ -123,8 +115,8 @@ module _ (c : Case) where
   all-renumberings : All (Renumbering c) (renumberings c)
   unfolding renumberings
   all-renumberings =
-      all-gather (Renumbering c) (λ q. gather (λ r. cond (fitting q r c) (renumber q r c ∷ []) []) (below permutations)) 0 permutations
-      (λ q. all-gather (Renumbering c) (λ r. cond (fitting q r c) (renumber q r c ∷ []) []) 0 permutations (λ r. one-pair q r))
+      all-each (Renumbering c) (λ q. each (λ r. cond (fitting q r c) (renumber q r c ∷ []) []) (below permutations)) 0 permutations
+      (λ q. all-each (Renumbering c) (λ r. cond (fitting q r c) (renumber q r c ∷ []) []) 0 permutations (λ r. one-pair q r))
 
   -- what holds of each of them holds of each renumbering
   renumbering-among : (P : Case → Type 0) → All P (renumberings c) → (d : Case) → Renumbering c d → P d
@@ -134,8 +126,8 @@ module _ (c : Case) where
       let r : ℕ = R .r in
       let fit : (fits q (c .n) && fits r (c .m)) ≡ true = T-true (T-and (fits q (c .n)) (fits r (c .m)) (R .threads) (R .addresses)) in
       let by-q =
-      gather-at P (λ q. gather (λ r. cond (fitting q r c) (renumber q r c ∷ []) []) (below permutations)) 0 permutations q (omega arith) (fits-below q (c .n) (R .threads)) h in
-      let by-r = gather-at P (λ r. cond (fitting q r c) (renumber q r c ∷ []) []) 0 permutations r (omega arith) (fits-below r (c .m) (R .addresses)) by-q in
+      each-at P (λ q. each (λ r. cond (fitting q r c) (renumber q r c ∷ []) []) (below permutations)) 0 permutations q (omega arith) (fits-below q (c .n) (R .threads)) h in
+      let by-r = each-at P (λ r. cond (fitting q r c) (renumber q r c ∷ []) []) 0 permutations r (omega arith) (fits-below r (c .m) (R .addresses)) by-q in
       let here : All P (cond true (renumber q r c ∷ []) []) = subst (λ (b : Bool). All P (cond b (renumber q r c ∷ []) [])) fit by-r in
       subst P (sym (R .is)) (here .0)
 

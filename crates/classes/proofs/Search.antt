@@ -3,7 +3,6 @@
 -- Assumes nothing.
 use Prim.Native.Nat.{ℕ, _+_, _<_}
 use native.Mathlib.Nat.{zero-add}
-use native.Mathlib.Decide.{decLt}
 use native.Mathlib.Omega.{arith}
 use mathlib.Core.Path.{_≡_, refl, sym, ap, ap₂, _∙_, subst}
 use mathlib.Core.Bool.{Bool, true, false, cond, _&&_, true≢false}
@@ -11,6 +10,7 @@ use mathlib.Core.List.{List, [], _∷_, _++_, append-assoc}
 use lib.Dec.{T, eqb}
 use lib.ListN.{length, getD, drop}
 use lib.Seq.{drop-at}
+use borrow.Author.Count.{below-more}
 use borrow.Author.Tests.{eqb-true}
 use Rattle.finite.specs.Tests.{count}
 use Rattle.finite.specs.Lists.{each, All}
@@ -48,18 +48,15 @@ module _ (test : ℕ → Bool) (bytes : ℕ → List ℕ) where
   module _ (i q : ℕ) (B : Best test bytes i q) where
     -- where q gives at most what i does, if i passes the test
     pub best-kept : (test i ≡ true → atMost (bytes q) (bytes i) ≡ true) → Best test bytes (i + 1) q
-    best-kept h = record { passes = B .passes; least = λ p l t. by p l t (decLt p i) }
-      where
-        by : (p : ℕ) → p < i + 1 → test p ≡ true → Dec (p < i) → atMost (bytes q) (bytes p) ≡ true
-        by p m t (yes l) = B .least p l t
-        by p m t (no n) = let e : i ≡ p = omega arith in subst (λ (x : ℕ). test x ≡ true → atMost (bytes q) (bytes x) ≡ true) e h t
+    best-kept h = record { passes = B .passes; least = below-more (λ p. test p ≡ true → atMost (bytes q) (bytes p) ≡ true) i (B .least) h }
 
     pub best-taken : test i ≡ true → atMost (bytes q) (bytes i) ≡ false → Best test bytes (i + 1) i
-    best-taken t h = record { passes = t; least = λ p l t. by p l t (decLt p i) }
-      where
-        by : (p : ℕ) → p < i + 1 → test p ≡ true → Dec (p < i) → atMost (bytes i) (bytes p) ≡ true
-        by p m t (yes l) = at-most-trans (bytes i) (bytes q) (bytes p) (at-most-other (bytes q) (bytes i) h) (B .least p l t)
-        by p m t (no n) = let e : i ≡ p = omega arith in subst (λ (x : ℕ). atMost (bytes i) (bytes x) ≡ true) e (at-most-same (bytes i))
+    best-taken t h = record {
+      passes = t;
+      least =
+          below-more (λ p. test p ≡ true → atMost (bytes i) (bytes p) ≡ true) i
+          (λ p l u. at-most-trans (bytes i) (bytes q) (bytes p) (at-most-other (bytes q) (bytes i) h) (B .least p l u)) (λ u. at-most-same (bytes i));
+    }
 
 -- what decides as the bytes do gives the same best
 pub best-by :

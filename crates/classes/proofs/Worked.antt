@@ -16,7 +16,7 @@ use Rattle.model.specs.Renumber.{moved, relabel, renumber, fitting}
 use Rattle.model.specs.Answers.{handed, put}
 use Rattle.model.specs.Worked.{lent, one, linked, same}
 use Rattle.classes.specs.Order.{atMost}
-use Rattle.classes.specs.Representative.{gather, renumberings, leastOf, representative, representativeRecord, representativeCase, choice, chosen, lesser}
+use Rattle.classes.specs.Representative.{renumberings, leastOf, representative, representativeRecord, representativeCase, choice, chosen, lesser}
 use Rattle.classes.specs.Worked.{holds, worked, recordRows, caseRows, comparedRows}
 
 pub worked-records : T (worked recordRows) × T (worked caseRows) × T (worked comparedRows)
@@ -25,6 +25,6 @@ unfolding all some count table each every after readGroups finish readNumber enc
     leastAfter risingDependency risingDependencies dependencies member storeTo unlisted writeOrder pair risingPair nextPair order bytes
     printableFront text head listing rest case read eventBytes dependencyBytes dependenciesBytes pairBytes rowPairs rowsPairs orderBytes
     recordOf eventGood dependencyFault writeFault writesFault nameFault fault moved relabel renumber fitting handed put lent one linked
-    same atMost gather renumberings leastOf representative representativeRecord representativeCase choice chosen lesser holds worked
+    same atMost renumberings leastOf representative representativeRecord representativeCase choice chosen lesser holds worked
     recordRows caseRows comparedRows
 worked-records = (tt, tt, tt)

@@ -4,10 +4,10 @@
 use Prim.Native.Nat.{ℕ}
 use mathlib.Core.Path.{_≡_}
 use mathlib.Core.Bool.{cond}
-use mathlib.Core.List.{List, [], _∷_, _++_}
+use mathlib.Core.List.{List, [], _∷_}
 use lib.Dec.{T, eqb}
 use lib.ListN.{length, take}
-use Rattle.finite.specs.Lists.{table}
+use Rattle.finite.specs.Lists.{table, each}
 use Rattle.number.specs.Reader.{Out, stop, next}
 use Rattle.permutation.specs.Permutation.{permutations, fits}
 use Rattle.model.specs.Case.{Case}
@@ -25,18 +25,13 @@ pub record Renumbering (c d : Case) : Type 0 where
   pub addresses : T (fits r (c .m))
   pub is : d ≡ renumber q r c
 
--- what f gives for each of the list, one behind the other
-unfoldable pub gather : {A B : Type 0} → (A → List B) → List A → List B
-gather f [] = []
-gather f (a ∷ as′) = f a ++ gather f as′
-
 abbrev pub below : ℕ → List ℕ
 below n = table 0 n (λ x. x)
 
 -- "all its renumberings": by each permutation q of threads and each permutation r of addresses that fit
 unfoldable pub renumberings : Case → List Case
 renumberings c =
-    gather (λ q. gather (λ r. cond (fitting q r c) (renumber q r c ∷ []) []) (below permutations)) (below permutations)
+    each (λ q. each (λ r. cond (fitting q r c) (renumber q r c ∷ []) []) (below permutations)) (below permutations)
 
 -- of two cases the one with the lesser record, the first if the records are equal
 abbrev pub lesserCase : Case → Case → Case

@@ -51,17 +51,23 @@ module _ (k s t b : ℕ) (A : Agree (bit s) (bit t) k b) where
     in-first x e h =
         let h′ : (bit s b && not (bit t b)) ≡ true = sym e ∙ h in
         record {
+          known = omega arith;
+          none = λ z. absurd (omega arith);
           first = λ z. record { event = b; below = l; has = and-l _ _ h′; lacks = not-true _ (and-r (bit s b) _ h′); same = A .same };
           second = λ z. absurd (omega arith);
-          none = λ z. absurd (z refl);
         }
 
     pub in-both : (x y : Bool) → x ≡ (bit s b && not (bit t b)) → x ≡ false → y ≡ (bit t b && not (bit s b)) → y ≡ false → Agree (bit s) (bit t) k (b + 1)
     in-both x y ex hx ey hy = next A l (neither (bit s b) (bit t b) (sym ex ∙ hx) (sym ey ∙ hy))
 
   pub in-neither : k ≤ b → Alone k s t 0
-  in-neither l = record { first = λ z. absurd (omega arith); second = λ z. absurd (omega arith); none = λ z w. agree-all A l }
+  in-neither l = record { known = omega arith; none = λ z. agree-all A l; first = λ z. absurd (omega arith); second = λ z. absurd (omega arith) }
 
 pub in-second : (k s t b : ℕ) → Agree (bit s) (bit t) k b → b < k → (y : Bool) → y ≡ (bit t b && not (bit s b)) → y ≡ true → Alone k s t 2
 in-second k s t b A l y e h =
-    record { first = λ z. absurd (omega arith); second = λ z. in-first k t s b (agree-back A) l y e h .first refl; none = λ z w. absurd (w refl) }
+    record {
+      known = omega arith;
+      none = λ z. absurd (omega arith);
+      first = λ z. absurd (omega arith);
+      second = λ z. in-first k t s b (agree-back A) l y e h .first refl;
+    }

@@ -1,6 +1,6 @@
 -- What decides between two fields: the first byte in which they differ, and not what both have in front of it.
 -- Assumes nothing.
-use Prim.Native.Nat.{ℕ, _<_}
+use Prim.Native.Nat.{ℕ, _≤_, _<_}
 use native.Mathlib.Omega.{arith}
 use mathlib.Core.Path.{_≡_, refl, ap}
 use mathlib.Core.Bool.{true, false}
@@ -36,8 +36,8 @@ lesser-behind c L = record {
 }
 
 module _ {a b : List ℕ} where
-  pub decided-by : (r : ℕ) → (r ≡ 1 → Lesser a b) → (r ≡ 2 → Lesser b a) → ((r ≡ 1 → ⊥) → (r ≡ 2 → ⊥) → a ≡ b) → Decided a b r
-  decided-by r f g h = record { less = λ e. less (f e); greater = λ e. greater (g e); equal = h }
+  pub decided-by : (r : ℕ) → r ≤ 2 → (r ≡ 0 → a ≡ b) → (r ≡ 1 → Lesser a b) → (r ≡ 2 → Lesser b a) → Decided a b r
+  decided-by r k h f g = record { known = k; equal = h; less = λ e. less (f e); greater = λ e. greater (g e) }
     where
       less : Lesser a b → (u v : List ℕ) → atMost (a ++ u) (b ++ v) ≡ true
       less L u v = rw (L .first, L .second) (simp (append-assoc, at-most-cancel) (byte-less (L .x) (L .y) _ _ (L .less)))
@@ -46,26 +46,28 @@ module _ {a b : List ℕ} where
       greater L u v = rw (L .first, L .second) (simp (append-assoc, at-most-cancel) (byte-greater (L .y) (L .x) _ _ (L .less)))
 
   pub decided-less : Lesser a b → Decided a b 1
-  decided-less L = decided-by 1 (λ e. L) (λ e. absurd (omega arith)) (λ n. absurd (n refl))
+  decided-less L = decided-by 1 (omega arith) (λ e. absurd (omega arith)) (λ e. L) (λ e. absurd (omega arith))
 
   pub decided-greater : Lesser b a → Decided a b 2
-  decided-greater L = decided-by 2 (λ e. absurd (omega arith)) (λ e. L) (λ n m. absurd (m refl))
+  decided-greater L = decided-by 2 (omega arith) (λ e. absurd (omega arith)) (λ e. absurd (omega arith)) (λ e. L)
 
   pub decided-equal : a ≡ b → Decided a b 0
-  decided-equal h = decided-by 0 (λ e. absurd (omega arith)) (λ e. absurd (omega arith)) (λ n m. h)
+  decided-equal h = decided-by 0 (omega arith) (λ e. h) (λ e. absurd (omega arith)) (λ e. absurd (omega arith))
 
   -- behind what both have in front
   pub decided-behind : (c : List ℕ) (r : ℕ) → Decided a b r → Decided (c ++ a) (c ++ b) r
   decided-behind c r d = record {
+    known = d .known;
+    equal = λ e. ap (λ (l : List ℕ). c ++ l) (d .equal e);
     less = λ e u v. simp (append-assoc, at-most-cancel) (d .less e u v);
     greater = λ e u v. simp (append-assoc, at-most-cancel) (d .greater e u v);
-    equal = λ n m. ap (λ (l : List ℕ). c ++ l) (d .equal n m);
   }
 
   -- what decides, decides whatever follows
-  pub decided-before : (c d : List ℕ) (r : ℕ) → ((r ≡ 1 → ⊥) → (r ≡ 2 → ⊥) → ⊥) → Decided a b r → Decided (a ++ c) (b ++ d) r
+  pub decided-before : (c d : List ℕ) (r : ℕ) → (r ≡ 0 → ⊥) → Decided a b r → Decided (a ++ c) (b ++ d) r
   decided-before c d r h D = record {
+    known = D .known;
+    equal = λ e. absurd (h e);
     less = λ e u v. simp append-assoc (D .less e (c ++ u) (d ++ v));
     greater = λ e u v. simp append-assoc (D .greater e (c ++ u) (d ++ v));
-    equal = λ n m. absurd (h n m);
   }

@@ -44,10 +44,10 @@ module _ (rows : List ℕ) (k p q : ℕ) where
       row-differs d r o few e =
           let long : length (rowsPairs k 0 (order k rows p)) ≡ length (rowsPairs k 0 (order k rows q)) = order-long rows k p ∙ e ∙ sym (order-long rows k q) in
           let o′ : Alone k (rowOf rows k p a) (rowOf rows k q a) r = rw (es, et) at o in
-          decided-by r
+          decided-by r (o′ .known)
+          (λ z. absurd (d (es ∙ bit-ext k _ _ (mod-lt _ (pow-pos k)) (mod-lt _ (pow-pos k)) (o′ .none z) ∙ sym et)))
           (λ z. first-lesser k a _ _ (omega arith) l long A (o′ .first z))
           (λ z. first-lesser k a _ _ (omega arith) l (sym long) (agree-back A) (o′ .second z))
-          (λ n m. absurd (d (es ∙ bit-ext k _ _ (mod-lt _ (pow-pos k)) (mod-lt _ (pow-pos k)) (o′ .none n m) ∙ sym et)))
 
   module _ (n m : ℕ) (en : n ≡ pairs rows p k) (em : m ≡ pairs rows q k) (r : ℕ) where
     pub counts-equal : n ≡ m → Decided (bytesOf rows k p) (bytesOf rows k q) r → Decided (orderBytes k (order k rows p)) (orderBytes k (order k rows q)) r
@@ -59,4 +59,4 @@ module _ (rows : List ℕ) (k p q : ℕ) where
     unfolding orderBytes
     counts-differ e h l d =
         rw (order-long rows k p, order-long rows k q, ← en, ← em)
-        (decided-before (bytesOf rows k p) (bytesOf rows k q) r (λ a b. e (encode-same n m (omega arith) (omega arith) (d .equal a b))) d)
+        (decided-before (bytesOf rows k p) (bytesOf rows k q) r (λ z. e (encode-same n m (omega arith) (omega arith) (d .equal z))) d)

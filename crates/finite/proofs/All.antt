@@ -31,6 +31,14 @@ pub all-append : {A : Type 0} (P : A → Type 0) (s t : List A) → All P s → 
 all-append P [] t h l = l
 all-append P (a ∷ s) t h l = (h .0, all-append P s t (h .1) l)
 
+pub all-front : {A : Type 0} (P : A → Type 0) (s t : List A) → All P (s ++ t) → All P s
+all-front P [] t h = tt
+all-front P (a ∷ s) t h = (h .0, all-front P s t (h .1))
+
+pub all-back : {A : Type 0} (P : A → Type 0) (s t : List A) → All P (s ++ t) → All P t
+all-back P [] t h = h
+all-back P (a ∷ s) t h = all-back P s t (h .1)
+
 pub every-make : {A : Type 0} (P : A → Type 0) (f : A → Bool) → ((a : A) → P a → f a ≡ true) → (l : List A) → All P l → every f l ≡ true
 unfolding every
 every-make P f h [] p = refl

@@ -10,7 +10,7 @@ table i zero f = []
 table i (suc j) f = f i ∷ table (suc i) j f
 
 -- what f makes of each element, one after the other
-unfoldable pub each : {A : Type 0} → (A → List ℕ) → List A → List ℕ
+unfoldable pub each : {A B : Type 0} → (A → List B) → List A → List B
 each f [] = []
 each f (a ∷ as′) = f a ++ each f as′
 

@@ -1,6 +1,7 @@
 -- The better of two permutations, and the best of all.
 -- Assumes nothing.
-use Prim.Native.Nat.{ℕ}
+use Prim.Native.Nat.{ℕ, _≤_}
+use native.Mathlib.Omega.{arith}
 use native.Mathlib.Decide.{ℕ-discrete}
 use mathlib.Core.Path.{_≡_, sym, ap₂, _∙_, subst}
 use mathlib.Core.Bool.{Bool, true, false, cond, not}
@@ -14,11 +15,14 @@ use Rattle.least.specs.Parts.{better}
 -- what a comparison tells of the parts alone
 module _ (a b : List ℕ) (d : ℕ) (D : Decided a b d) where
   not-greater : (d ≡ 2 → ⊥) → atMost a b ≡ true
-  not-greater n = by (ℕ-discrete d 1)
+  not-greater n = by (ℕ-discrete d 0) (D .known)
     where
-      by : Dec (d ≡ 1) → atMost a b ≡ true
-      by (yes e) = sym (ap₂ atMost (append-nil a) (append-nil b)) ∙ D .less e [] []
-      by (no m) = subst (λ (x : List ℕ). atMost a x ≡ true) (D .equal m n) (at-most-same a)
+      by : Dec (d ≡ 0) → d ≤ 2 → atMost a b ≡ true
+      by (yes e) k = subst (λ (x : List ℕ). atMost a x ≡ true) (D .equal e) (at-most-same a)
+      by (no m) k = sym (ap₂ atMost (append-nil a) (append-nil b)) ∙ D .less (last m n k) [] []
+        where
+          last : (d ≡ 0 → ⊥) → (d ≡ 2 → ⊥) → d ≤ 2 → d ≡ 1
+          last m n k = omega arith
 
   is-greater : d ≡ 2 → atMost a b ≡ false
   is-greater e = sym (ap₂ atMost (append-nil a) (append-nil b)) ∙ D .greater e [] []

@@ -1,7 +1,6 @@
 -- Fields compared one after the other: the first in which the two differ decides.
 -- Assumes nothing.
 use Prim.Native.Nat.{ℕ, zero, suc, _+_, _≤_, _<_}
-use native.Mathlib.Nat.{le-antisymm}
 use native.Mathlib.Decide.{decLt}
 use native.Mathlib.Numerals.{add-one}
 use native.Mathlib.Omega.{arith}
@@ -16,9 +15,11 @@ use Rattle.model.specs.Written.{orderBytes}
 use Rattle.relabel.specs.Orders.{order}
 use Rattle.writer.specs.Stages.{run}
 use Rattle.writer.proofs.Runs.{run-more}
+use Rattle.writer.proofs.Parts.{run-same}
 use Rattle.compare.specs.Decided.{Decided}
 use Rattle.least.specs.Parts.{orderAt, initialAt}
 use Rattle.compare.proofs.Decisions.{decided-equal, decided-behind, decided-before}
+use Rattle.compare.proofs.Agree.{Agree, next, agree-all}
 
 -- numbers that are others
 pub of-numbers : (v w a b d : ℕ) → v ≡ a → w ≡ b → Decided (encode v) (encode w) d → Decided (encode a) (encode b) d
@@ -52,14 +53,11 @@ order-field rows k q p y a b d e g D = rw (sym e, sym g) D
 -- ---- two parts
 
 module _ (a b u v : List ℕ) (d : ℕ) (D : Decided a b d) where
-  pub first-less : d ≡ 1 → Decided (a ++ u) (b ++ v) 1
-  first-less e = subst (Decided (a ++ u) (b ++ v)) e (decided-before u v d (λ n m. n e) D)
+  pub first-differs : (d ≡ 0 → ⊥) → Decided (a ++ u) (b ++ v) d
+  first-differs n = decided-before u v d n D
 
-  pub first-greater : d ≡ 2 → Decided (a ++ u) (b ++ v) 2
-  first-greater e = subst (Decided (a ++ u) (b ++ v)) e (decided-before u v d (λ n m. m e) D)
-
-  pub first-equal : (d ≡ 1 → ⊥) → (d ≡ 2 → ⊥) → (r : ℕ) → Decided u v r → Decided (a ++ u) (b ++ v) r
-  first-equal n m r R = subst (λ (x : List ℕ). Decided (a ++ u) (x ++ v) r) (D .equal n m) (decided-behind a r R)
+  pub first-equal : d ≡ 0 → (r : ℕ) → Decided u v r → Decided (a ++ u) (b ++ v) r
+  first-equal e r R = subst (λ (x : List ℕ). Decided (a ++ u) (x ++ v) r) (D .equal e) (decided-behind a r R)
 
 -- ---- n fields
 
@@ -81,38 +79,18 @@ split f (suc n) i l = by (decLt i n) (split f n i)
         let e : i ≡ n = omega arith in
         record { rest = []; whole = sym (append-nil (run f (i + 1)) ∙ ap (run f) (add-one i ∙ ap suc e)) }
 
--- the first i of n fields are equal
-pub record Equal (f g : ℕ → List ℕ) (n i : ℕ) : Type 0 where
-  pub within : i ≤ n
-  pub same : run f i ≡ run g i
+-- the first i of n fields are equal: the next one decides where it differs
+module _ (f g : ℕ → List ℕ) (n i : ℕ) (A : Agree f g n i) where
+  pub ends : n ≤ i → Decided (run f n) (run g n) 0
+  ends l = decided-equal (run-same n f g (agree-all A l))
 
-module _ (f g : ℕ → List ℕ) (n : ℕ) where
-  pub begun : Equal f g n 0
-  unfolding run
-  begun = record { within = omega arith; same = refl }
+  module _ (l : i < n) (d : ℕ) (D : Decided (f i) (g i) d) where
+    pub differs : (d ≡ 0 → ⊥) → Decided (run f n) (run g n) d
+    differs h =
+        let F : Split f n i = split f n i l in
+        let G : Split g n i = split g n i l in
+        let here : Decided (run g i ++ f i) (run g i ++ g i) d = decided-behind (run g i) d D in
+        rw (F .whole, G .whole, run-more f i, run-more g i, run-same i f g (A .same)) (decided-before (F .rest) (G .rest) d h here)
 
-  module _ (i : ℕ) (E : Equal f g n i) where
-    pub ends : n ≤ i → Decided (run f n) (run g n) 0
-    ends l = subst (λ (j : ℕ). Decided (run f j) (run g j) 0) (le-antisymm (E .within) l) (decided-equal (E .same))
-
-    module _ (d : ℕ) (D : Decided (f i) (g i) d) where
-      -- the first i fields and the next
-      next : Decided (run f (i + 1)) (run g (i + 1)) d
-      next =
-          subst (λ (x : List ℕ). Decided (run f (i + 1)) x d) (ap (λ (x : List ℕ). x ++ g i) (E .same) ∙ sym (run-more g i))
-          (subst (λ (x : List ℕ). Decided x (run f i ++ g i) d) (sym (run-more f i)) (decided-behind (run f i) d D))
-
-      decides : ((d ≡ 1 → ⊥) → (d ≡ 2 → ⊥) → ⊥) → i < n → Decided (run f n) (run g n) d
-      decides h l =
-          let F : Split f n i = split f n i l in
-          let G : Split g n i = split g n i l in
-          rw (F .whole, G .whole) (decided-before (F .rest) (G .rest) d h next)
-
-      pub less : i < n → d ≡ 1 → Decided (run f n) (run g n) 1
-      less l e = subst (Decided (run f n) (run g n)) e (decides (λ p q. p e) l)
-
-      pub greater : i < n → d ≡ 2 → Decided (run f n) (run g n) 2
-      greater l e = subst (Decided (run f n) (run g n)) e (decides (λ p q. q e) l)
-
-      pub again : i < n → (d ≡ 1 → ⊥) → (d ≡ 2 → ⊥) → Equal f g n (i + 1)
-      again l p q = record { within = omega arith; same = next .equal p q }
+    pub again : d ≡ 0 → Agree f g n (i + 1)
+    again e = next A l (D .equal e)

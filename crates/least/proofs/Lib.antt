@@ -1,3 +1,4 @@
 pub mod Fields
 pub mod Better
 pub mod Best
+pub mod Represented

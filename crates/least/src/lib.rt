@@ -34,11 +34,8 @@ fn threads(thread: &[u8; Case::MOST_EVENTS], k: usize, q: usize, p: usize) -> u8
     let mut e: usize = 0;
     while e < k {
         let d = label(thread[e], q, p);
-        if d == compare::LESS {
-            return compare::LESS;
-        }
-        if d == compare::GREATER {
-            return compare::GREATER;
+        if d != compare::EQUAL {
+            return d;
         }
         e += 1;
     }
@@ -83,11 +80,8 @@ fn orders(
     let mut y: usize = 0;
     while y < n {
         let d = order(rows, k, q, p, y);
-        if d == compare::LESS {
-            return compare::LESS;
-        }
-        if d == compare::GREATER {
-            return compare::GREATER;
+        if d != compare::EQUAL {
+            return d;
         }
         y += 1;
     }
@@ -107,11 +101,8 @@ fn by_threads<'a>(
     ensures { λ d. ⌜ Decided (threadsPart (now (thread .entry)) (now (rows .entry)) n k q) (threadsPart (now (thread .entry)) (now (rows .entry)) n k p) d ⌝ }
 {
     let d = threads(thread, k, q, p);
-    if d == compare::LESS {
-        return compare::LESS;
-    }
-    if d == compare::GREATER {
-        return compare::GREATER;
+    if d != compare::EQUAL {
+        return d;
     }
     orders(rows, n, k, q, p)
 }
@@ -169,11 +160,8 @@ fn initials(initials: &[u32; Case::MOST_ADDRESSES], m: usize, r: usize, s: usize
     let mut y: usize = 0;
     while y < m {
         let d = initial(initials, r, s, y);
-        if d == compare::LESS {
-            return compare::LESS;
-        }
-        if d == compare::GREATER {
-            return compare::GREATER;
+        if d != compare::EQUAL {
+            return d;
         }
         y += 1;
     }
@@ -204,11 +192,8 @@ fn addresses<'a>(
     let mut e: usize = 0;
     while e < k {
         let d = address(kinds[e], xs[e], r, s);
-        if d == compare::LESS {
-            return compare::LESS;
-        }
-        if d == compare::GREATER {
-            return compare::GREATER;
+        if d != compare::EQUAL {
+            return d;
         }
         e += 1;
     }
@@ -229,11 +214,8 @@ fn by_addresses<'a>(
     ensures { λ d. ⌜ Decided (addressesPart (now (values .entry)) (now (kinds .entry)) (now (xs .entry)) m k r) (addressesPart (now (values .entry)) (now (kinds .entry)) (now (xs .entry)) m k s) d ⌝ }
 {
     let d = initials(values, m, r, s);
-    if d == compare::LESS {
-        return compare::LESS;
-    }
-    if d == compare::GREATER {
-        return compare::GREATER;
+    if d != compare::EQUAL {
+        return d;
     }
     addresses(kinds, xs, k, r, s)
 }

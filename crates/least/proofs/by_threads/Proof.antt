@@ -1,7 +1,7 @@
 -- `least::by_threads` meets its contract. Assumes nothing.
 use borrow.Author.Needs.{needs}
 use Rattle.least.specs.Parts.{threadsPart}
-use Rattle.least.proofs.Fields.{first-less, first-greater, first-equal}
+use Rattle.least.proofs.Fields.{first-differs, first-equal}
 use Rattle.least.proofs.by_threads.Statement.{statement}
 use Rattle.least.proofs.by_threads.Tie as tie
 
@@ -11,7 +11,6 @@ by-threads-spec =
     tie.close
     (tie.spec
     (λ c κs. search needs)
-    (λ c. search first-less)
-    (λ c. search first-greater)
+    (λ c. search first-differs)
     (λ c κs. search needs)
     (λ c. search first-equal))

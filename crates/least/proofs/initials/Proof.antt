@@ -2,12 +2,13 @@
 use Prim.Native.Nat.{_-_}
 use borrow.Author.Needs.{needs}
 use Rattle.least.specs.Parts.{initialAt}
-use Rattle.least.proofs.Fields.{Equal, begun, less, greater, again, ends}
+use Rattle.compare.proofs.Agree.{Agree, begun}
+use Rattle.least.proofs.Fields.{differs, again, ends}
 use Rattle.least.proofs.initials.Statement.{statement}
 use Rattle.least.proofs.initials.Tie as tie
 
 abbrev Inv-loop : tie.InvT-loop
-Inv-loop initials m r s y₀ y = Equal (initialAt initials r) (initialAt initials s) m y
+Inv-loop initials m r s y₀ y = Agree (initialAt initials r) (initialAt initials s) m y
 
 abbrev μ-loop : tie.MeasureT-loop
 μ-loop initials m r s y₀ y = m - y
@@ -19,10 +20,9 @@ initials-spec =
     (tie.spec
     Inv-loop
     μ-loop
-    (λ c. begun _ _ _)
+    (λ c. begun)
     (λ c κs. search needs)
-    (λ c. search less)
-    (λ c. search greater)
+    (λ c. search differs)
     (λ c. search needs)
     (λ c. search needs)
     (λ c. search again)

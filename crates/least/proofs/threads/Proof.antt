@@ -2,12 +2,13 @@
 use Prim.Native.Nat.{_-_}
 use borrow.Author.Needs.{needs}
 use Rattle.least.specs.Parts.{threadAt}
-use Rattle.least.proofs.Fields.{Equal, begun, less, greater, again, ends}
+use Rattle.compare.proofs.Agree.{Agree, begun}
+use Rattle.least.proofs.Fields.{differs, again, ends}
 use Rattle.least.proofs.threads.Statement.{statement}
 use Rattle.least.proofs.threads.Tie as tie
 
 abbrev Inv-loop : tie.InvT-loop
-Inv-loop thread k q p e₀ e = Equal (threadAt thread q) (threadAt thread p) k e
+Inv-loop thread k q p e₀ e = Agree (threadAt thread q) (threadAt thread p) k e
 
 abbrev μ-loop : tie.MeasureT-loop
 μ-loop thread k q p e₀ e = k - e
@@ -19,11 +20,10 @@ threads-spec =
     (tie.spec
     Inv-loop
     μ-loop
-    (λ c. begun _ _ _)
+    (λ c. begun)
     (λ c. search needs)
     (λ c κs. search needs)
-    (λ c. search less)
-    (λ c. search greater)
+    (λ c. search differs)
     (λ c. search needs)
     (λ c. search needs)
     (λ c. search again)

@@ -1,7 +1,8 @@
 -- `litmus::representative_case` meets its contract. Assumes nothing.
 use mathlib.Core.Path.{sym, _∙_}
 use borrow.Author.Needs.{needs}
-use Rattle.litmus.proofs.Represented.{represented-sound, represented-done, represented-faulty}
+use Rattle.least.proofs.Represented.{represented-sound}
+use Rattle.litmus.proofs.Represented.{represented-done, represented-faulty}
 use Rattle.litmus.proofs.representative_case.Statement.{statement}
 use Rattle.litmus.proofs.representative_case.Tie as tie
 
@@ -13,7 +14,7 @@ representative-case-spec =
     (λ c κs. sym (c .before .fault .ensures) ∙ c .if1 .taken)
     (λ c κs.
     let start = c .before in
-    represented-sound _ (sym (start .before .fault .ensures) ∙ start .if1 .taken) _ (c .representative .ensures))
+    represented-sound _ _ (sym (start .before .fault .ensures) ∙ start .if1 .taken) (c .representative .ensures))
     (λ c κs. search needs)
     (λ c.
     let made = c .before .before in

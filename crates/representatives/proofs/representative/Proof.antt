@@ -5,7 +5,8 @@ use Rattle.model.specs.Answers.{Stored}
 use Rattle.answers.specs.Shown.{shown}
 use Rattle.reader.proofs.Bytes.{slice-bytes}
 use Rattle.reader.proofs.Found.{Found, found, missed}
-use Rattle.representatives.proofs.Represented.{found-good, represented-sound, represented, not-represented}
+use Rattle.least.proofs.Represented.{represented-sound}
+use Rattle.representatives.proofs.Represented.{found-good, represented, not-represented}
 use Rattle.representatives.proofs.representative.Statement.{statement}
 use Rattle.representatives.proofs.representative.Tie as tie
 
@@ -17,7 +18,7 @@ read-found c =
 put-requires : tie.Need-put-requires
 put-requires c κs =
     let there = c .before .before .before in
-    represented-sound _ _ (read-found there) _ (c .before .representative .ensures)
+    represented-sound _ _ (found-good _ _ (read-found there)) (c .before .representative .ensures)
 
 returns : tie.Need-returns
 returns c =
