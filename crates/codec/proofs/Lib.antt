@@ -1,3 +1,4 @@
 pub mod ReadsAs
 pub mod Exact
 pub mod AsLong
+pub mod Extent

@@ -15,7 +15,7 @@ use Rattle.finite.specs.Lists.{each, All}
 use Rattle.finite.proofs.Tests.{and-l, and-r, count-mono}
 use Rattle.finite.proofs.All.{all-map, all-append}
 use Rattle.number.specs.Number.{encodeBy, encode, Bytes}
-use Rattle.number.proofs.Encoding.{fuel-any}
+use Rattle.number.proofs.Sizes.{size-mono}
 use Rattle.model.specs.Limits.{mostEdition, second, mostThreads, mostAddresses, mostEvents, mostDependencies, mostValue, mostName}
 use Rattle.model.specs.Case.{Case, Event, Dependency, noEvent, load, store, mostKind, bare, byAddress, mostClass}
 use Rattle.model.specs.Record.{Pair, dependencyGood, dependencyRank, leastAfter, storeTo}
@@ -29,22 +29,6 @@ use Rattle.laws.proofs.Parts.{kinds-most}
 use Rattle.laws.proofs.ReadOrder.{Rising, rising-rows, few-pairs}
 
 -- ---- a number
-
-long-by : (g v w : ℕ) → v ≤ w → length (encodeBy g v) ≤ length (encodeBy g w)
-unfolding encodeBy
-long-by zero v w h = le-refl 1
-long-by (suc g) v w h = go (ltb v 128) (ltb w 128) refl refl (long-by g (v / 128) (w / 128))
-  where
-    go : (x y : Bool) → ltb v 128 ≡ x → ltb w 128 ≡ y → (v / 128 ≤ w / 128 → length (encodeBy g (v / 128)) ≤ length (encodeBy g (w / 128)))
-        → length (cond x (v ∷ []) ((128 + v % 128) ∷ encodeBy g (v / 128))) ≤ length (cond y (w ∷ []) ((128 + w % 128) ∷ encodeBy g (w / 128)))
-    go true true p q ih = le-refl 1
-    go true false p q ih = omega arith
-    go false true p q ih = absurd (omega (arith, ltb-false v 128 p, ltb-true w 128 q))
-    go false false p q ih = omega (arith, ih (omega arith))
-
-pub size-mono : (v w : ℕ) → v ≤ w → size v ≤ size w
-unfolding encode
-size-mono v w h = rw (fuel-any v w v (le-refl v) h) (long-by w v w h)
 
 bytes-by : (g v : ℕ) → v ≤ g → Bytes (encodeBy g v)
 unfolding encodeBy
@@ -96,7 +80,7 @@ few-event edition n m e hn hm f =
 
 module _ (es : List Event) where
   -- the stores below k to i addresses from x on, and those of them that e is
-  abbrev stores : (x i k : ℕ) → ℕ
+  abbrev pub stores : (x i k : ℕ) → ℕ
   stores x zero k = 0
   stores x (suc i) k = count k (storeTo es x) + stores (suc x) i k
 

@@ -9,6 +9,7 @@ pub mod ExactOrder
 pub mod ExactCase
 pub mod Bound
 pub mod Greatest
+pub mod ExtentCase
 pub mod Meaning
 pub mod Models
 pub mod Printed

@@ -12,15 +12,9 @@ use lib.Dec.{T, lit<}
 use lib.ListN.{length, getD}
 use Rattle.finite.proofs.Tests.{all-iff, and-iff, imp-iff}
 use Rattle.model.specs.Case.{Case}
-use Rattle.model.specs.Rules.{Model, orElse, before, isBarrier, applicable, of, everywhere, rule11, rule12, rule13, rule14, rule15, rule16, rule17, rule18, verdict}
+use Rattle.model.specs.Rules.{firstRule, lastRule, Model, orElse, before, isBarrier, applicable, of, everywhere, rule11, rule12, rule13, rule14, rule15, rule16, rule17, rule18, verdict}
 
 -- ---- the rules by their numbers
-
-abbrev pub firstRule : ℕ
-firstRule = 11
-
-abbrev pub lastRule : ℕ
-lastRule = 18
 
 abbrev pub rulesOf : Case → Model → List Bool
 rulesOf c w = rule11 c ∷ rule12 c ∷ rule13 c ∷ rule14 c ∷ rule15 c w ∷ rule16 c w ∷ rule17 c ∷ rule18 c ∷ []

@@ -2,14 +2,9 @@
 -- Assumes nothing.
 use Prim.Native.Nat.{ℕ, _+_, _-_, _*_, _/_}
 use mathlib.Core.Bool.{cond}
-use lib.ListN.{length}
-use Rattle.number.specs.Number.{encode}
+pub use Rattle.number.specs.Number.{size}
 use Rattle.model.specs.Limits.{mostEdition, second, mostThreads, mostAddresses, mostEvents, mostDependencies, mostValue, mostName}
 use Rattle.model.specs.Case.{mostKind, mostClass}
-
--- the bytes that a number takes
-abbrev pub size : ℕ → ℕ
-size v = length (encode v)
 
 unfoldable pub mostEventBytes : ℕ
 mostEventBytes = size (mostKind mostEdition) + (size (mostThreads - 1) + (size (mostAddresses - 1) + size mostValue))

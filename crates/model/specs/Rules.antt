@@ -11,6 +11,13 @@ use Rattle.bits.specs.Bit.{bit}
 use Rattle.model.specs.Limits.{mostAddresses}
 use Rattle.model.specs.Case.{Case, noEvent, load, store, sync, bare}
 
+-- the rules' numbers go from the first to the last
+abbrev pub firstRule : ℕ
+firstRule = 11
+
+abbrev pub lastRule : ℕ
+lastRule = 18
+
 -- 01: "Models: 0 is PPCw, 1 is PPCs"
 pub data Model : Type 0 where
   PPCw : Model

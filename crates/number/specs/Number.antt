@@ -51,6 +51,10 @@ encodeBy (suc n) v = cond (ltb v 128) (v ∷ []) (let rest = encodeBy n (v / 128
 unfoldable pub encode : ℕ → List ℕ
 encode v = encodeBy v v
 
+-- the bytes that a number takes
+abbrev pub size : ℕ → ℕ
+size v = length (encode v)
+
 -- the most bytes that a number of 32 bits takes
 abbrev pub widest : ℕ
 widest = 5
