@@ -1,0 +1,4 @@
+pub mod Log
+pub mod Pieces
+pub mod Claim
+pub mod Worked
