@@ -13,11 +13,18 @@ ghost use Rattle.case.specs.Held.{caseOf};
 ghost use Rattle.answers.specs.Shown.{shown};
 ghost use Rattle.classes.specs.Representative.{representativeRecord, representativeCase, choice as choiceOf, lesser as lesserOf};
 ghost use Rattle.representatives.specs.Shown.{choiceShown};
+ghost use Rattle.log_model.specs.Pieces.{judgeLog};
+ghost use Rattle.log.specs.Shown.{answerShown};
 ghost use Rattle.litmus.specs.Shown.{caseShown, partShown, noPart, judgedPart, renumberedPart, bytesOf};
 ghost use Rattle.litmus.specs.Orders.{tooMany, rule11Answer};
 pub use answers::Answer;
 use case::Case;
+pub use log::JudgedLog;
+pub use log::LogAnswer;
+pub use log::judge_log;
+pub use log::judged_log;
 pub use representatives::Choice;
+pub use tally::Tally;
 
 // An answer and its case, which is `Case::empty()` where it was refused.
 #[repr(C)]
@@ -448,6 +455,19 @@ pub extern "C" fn litmus_case_representative(c: Case) -> CaseAnswer
     ensures { λ r. ⌜ r ≡ caseShown (representativeCase (caseOf c)) ⌝ }
 {
     representative_case(c)
+}
+
+// Judges the records of bytes that begin at the place from of a log, the last of the log or not, and adds each to the tally of the caller.
+#[no_mangle]
+pub extern "C" fn litmus_log_judge(
+    bytes: &[u8],
+    from: u64,
+    last: bool,
+    tally: &mut Tally,
+) -> LogAnswer
+    ensures { λ r. ⌜ (r ≡ answerShown (judgeLog from last (now (bytes .entry)) (now (tally .entry)))) × (now (tally .exit) ≡ judgeLog from last (now (bytes .entry)) (now (tally .entry)) .tally) ⌝ }
+{
+    judge_log(bytes, from, last, tally)
 }
 
 #[no_mangle]

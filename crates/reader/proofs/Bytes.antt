@@ -8,5 +8,9 @@ use Rattle.codec.proofs.Exact.{bytes-at}
 use mir.Syntax.{w8}
 use mir.Val.{Fits}
 
-pub slice-bytes : (s : List ℕ) → ((i : ℕ) → Fits w8 (getD s i 0)) → Bytes s
+-- as the code has it of a slice
+abbrev pub Octets : List ℕ → Type 0
+Octets s = (i : ℕ) → Fits w8 (getD s i 0)
+
+pub slice-bytes : (s : List ℕ) → Octets s → Bytes s
 slice-bytes s h = bytes-at s (λ i. h i .fits)

@@ -6,25 +6,20 @@ use native.Mathlib.Omega.{arith}
 use mathlib.Core.Path.{_≡_, refl, sym, ap, ap₂, _∙_}
 use mathlib.Core.Bool.{Bool, true, false, cond}
 use mathlib.Core.List.{List}
-use lib.ListN.{length, getD, take}
+use lib.ListN.{length, take}
 use borrow.Author.Tests.{eq-eqb, ne-eqb}
-use mir.Syntax.{w8}
-use mir.Val.{Fits as FitsIn}
 use Rattle.number.specs.Reader.{Out, stop, next}
 use Rattle.model.specs.Case.{Case}
 use Rattle.model.specs.Record.{read}
 use Rattle.number.specs.Number.{Bytes}
 use Rattle.reader.specs.declared.Reading.{Reading}
 use Rattle.reader.specs.Answers.{readingOf}
-use Rattle.reader.proofs.Bytes.{slice-bytes}
+use Rattle.reader.proofs.Bytes.{Octets, slice-bytes}
 use Rattle.reader.proofs.Found.{Found, found, missed, read-within}
 use Rattle.classes.specs.Order.{atMost}
 use Rattle.classes.specs.Representative.{Choice as Chosen, choiceRead, choice, chosen, lesser}
 use Rattle.representatives.specs.declared.Choice.{Choice}
 use Rattle.representatives.specs.Shown.{choiceShown}
-
-abbrev pub Octets : List ℕ → Type 0
-Octets s = (i : ℕ) → FitsIn w8 (getD s i 0)
 
 pub record-within : (s : List ℕ) → Octets s → (r : Reading) → r ≡ readingOf (read s) → r .number ≡ 0 → r .length ≤ length s
 record-within s b r e z = let f : Found s r = found s (slice-bytes s b) r e z in read-within s (slice-bytes s b) (f .c) (r .length) (f .is-read)
