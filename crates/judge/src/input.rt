@@ -1,6 +1,6 @@
 // Records back to back from an input that may be longer than the buffer.
 ghost use mathlib.Core.Path.{_≡_};
-ghost use Prim.Native.Nat.{ℕ, _-_, _*_, _≤_};
+ghost use Prim.Native.Nat.{ℕ, _-_, _*_, _≤_, _<_};
 ghost use lib.ListN.{length, replicate};
 ghost use Rattle.model.specs.Limits.{mostEdition};
 ghost use Rattle.model.specs.Bound.{mostBytes};
@@ -24,40 +24,21 @@ pub struct Progress {
     pub done: bool,
 }
 
-// Moves the bytes from `at` up to `have` to the front, and gives how many they are.
-fn moved_up(buffer: &mut [u8], at: usize, have: usize) -> usize
-    requires { ⌜ (at ≤ have) × (have ≤ length (now buffer)) ⌝ }
-    ensures { λ r. ⌜ (r ≡ have - at) × (length (now (buffer .exit)) ≡ length (now (buffer .entry))) ⌝ }
-{
-    let mut i: usize = 0;
-    let mut from = at;
-    while from < have {
-        buffer[i] = buffer[from];
-        i += 1;
-        from += 1;
-    }
-    i
-}
-
 // One read behind the bytes that are held; an input that can't be read is left.
 fn read_on(fd: i32, name: &[u8], buffer: &mut [u8], p: Progress) -> Progress
     requires { ⌜ Within p (length (now buffer)) ⌝ }
+    requires { ⌜ p .have - p .at < length (now buffer) ⌝ }
     ensures { λ r. ⌜ Within r (length (now (buffer .entry))) ⌝ }
     ensures { λ r. ⌜ length (now (buffer .exit)) ≡ length (now (buffer .entry)) ⌝ }
 {
-    let held = moved_up(buffer, p.at, p.have);
-    let got = libc::read(fd, &mut buffer[held..]);
-    let n = io::count(got, &buffer[held..]);
-    if got < 0 {
-        os::fail(name);
-    }
+    let got = stream::read_on(fd, name, buffer, p.at, p.have);
     Progress {
         at: 0,
-        have: held + n,
+        have: got.have,
         passed: p.passed,
         records: p.records,
-        ended: n == 0,
-        done: got < 0,
+        ended: got.ended,
+        done: got.failed,
     }
 }
 
@@ -105,6 +86,7 @@ fn judge_next(buffer: &[u8], p: Progress) -> Progress
 // Judges the next record once it is surely whole in the buffer, as no record is longer than Case::MOST_BYTES; reads on before.
 fn step(fd: i32, name: &[u8], buffer: &mut [u8], p: Progress) -> Progress
     requires { ⌜ Within p (length (now buffer)) ⌝ }
+    requires { ⌜ mostBytes mostEdition ≤ length (now buffer) ⌝ }
     ensures { λ r. ⌜ Within r (length (now (buffer .entry))) ⌝ }
     ensures { λ r. ⌜ length (now (buffer .exit)) ≡ length (now (buffer .entry)) ⌝ }
 {

@@ -1,12 +1,17 @@
 -- `judge::input::judge_input` is safe and ends: the measure is the number of turns that are left. Assumes nothing.
+use Prim.Native.Nat.{_≤_}
+use native.Mathlib.Omega.{arith}
 use borrow.Author.Needs.{needs}
 use lib.ListN.{length}
+use Rattle.model.specs.Limits.{mostEdition}
+use Rattle.model.specs.Bound.{mostBytes}
+use Rattle.laws.proofs.Bound.{most-is}
 use Rattle.judge.specs.Within.{Within}
 use Rattle.judge.proofs.input.judge_input.Statement.{statement}
 use Rattle.judge.proofs.input.judge_input.Tie as tie
 
 abbrev Inv-loop : tie.InvT-loop
-Inv-loop fd name buffer₀ p₀ turns₀ buffer p turns = Within p (length buffer)
+Inv-loop fd name buffer₀ p₀ turns₀ buffer p turns = Within p (length buffer) × (mostBytes mostEdition ≤ length buffer)
 
 abbrev μ-loop : tie.MeasureT-loop
 μ-loop fd name buffer₀ p₀ turns₀ buffer p turns = turns
@@ -19,7 +24,7 @@ judge-input-spec =
     μ-loop
     (λ c κs. search needs)
     (λ c. search needs)
-    (λ c. search needs)
+    (λ c. (search needs, omega (arith, most-is .1)))
     (λ c κs. search needs)
     (λ c. search needs)
     (λ c. search needs)
