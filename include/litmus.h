@@ -9,7 +9,7 @@
  * Any bytes, any sizes, models, permutations and places are fine: there is an answer for each.
  * A size or room of 0 is fine, but the pointer that goes with it must not be NULL. No call keeps a
  * pointer, allocates memory or has any other state; calls may run at the same time. Two calls that
- * do must not share `out`, nor may one call's `out` be the other's record.
+ * do must not share `out` or a tally, nor may one call's `out` be the other's record.
  *
  * A case is one candidate execution in a struct, litmus_case. The calls litmus_case_.. are for
  * programs that build cases or look into them.
@@ -65,7 +65,8 @@ enum {
  *                write order entry is not a store to that address or was listed before, or a pair
  *                is not above the pair before it
  *             5  not a permutation number, or it does not map the case's labels onto themselves
- *             6  the buffer has too few bytes from the given place, or the place is past its end
+ *             6  the buffer has too few bytes from the given place, or the place is past its end;
+ *                of a log: a count of the tally is full
  *             7  no such model
  *            11  a thread's order is not irreflexive and transitive
  *            12  a thread's order leaves two of its own events unordered
@@ -177,6 +178,67 @@ litmus_part litmus_name(const uint8_t *record, size_t size);
 litmus_part litmus_judged_name(const uint8_t *record, size_t size, uint64_t model);
 litmus_part litmus_renumbered_name(const uint8_t *record, size_t size, uint64_t threads,
                                    uint64_t addresses, size_t room, uint64_t at);
+
+/*
+ * A log is records back to back, of both editions. It is judged under PPCs as it comes, by
+ * litmus_log_judge, and each record is added to a tally.
+ */
+
+/* How many rules there are, and the number of the first. */
+enum { LITMUS_FIRST_RULE = 11, LITMUS_RULES = 8 };
+
+/*
+ * records    how many records were judged
+ * accepted   how many of them were accepted
+ * broken     by rule, from LITMUS_FIRST_RULE on: for how many it is the lowest that they break
+ *
+ * A log begins with all zeros, or with the tally of another one to go on counting.
+ */
+typedef struct {
+    uint32_t records;
+    uint32_t accepted;
+    uint32_t broken[LITMUS_RULES];
+} litmus_tally;
+
+/*
+ * number   where the log has ended, how:
+ *             0  between two records, which is no fault; or it has no bytes
+ *             1  its bytes end inside a record
+ *             2, 3, 4, 23  its next record is refused, as by litmus_read
+ *             6  a count of the tally is at 4294967295 and would grow: the tally is that of the
+ *                records before
+ *          otherwise 0
+ * ended    whether the log has ended, whatever bytes may follow
+ * place    under 1 to 4 and 23 as for litmus_read, but from the log's start; otherwise 0
+ * length   how many of the bytes are those of records that were added to the tally
+ */
+typedef struct {
+    uint32_t number;
+    bool ended;
+    uint64_t place;
+    size_t length;
+} litmus_log_answer;
+
+/*
+ * Judges every complete record of some bytes of a log, and adds them to the tally. The bytes begin
+ * at the place `from` of the log, where a record begins; `last` says that no more will follow.
+ *
+ * Where the log has not ended, the bytes behind those of `length` have to come again, in front of
+ * further ones, with `from` raised by `length`. They are no more than LITMUS_RECORD_BYTES, so that
+ * a longer buffer always has room for more. So a log is judged in pieces:
+ *
+ *     size = 0, from = 0, and a tally of zeros
+ *     repeat: read more bytes into the buffer behind the `size` that it has, and count them in
+ *             answer = litmus_log_judge(buffer, size, from, no more will follow, &tally)
+ *             move the bytes from answer.length on to the front of the buffer
+ *             size -= answer.length, from += answer.length
+ *     until answer.ended
+ *
+ * However it is cut, the tally and the ending are those of one call on the whole log with `last`.
+ * Places are counted modulo 2 to the 64. The tally must not be NULL nor lie within the bytes.
+ */
+litmus_log_answer litmus_log_judge(const uint8_t *bytes, size_t size, uint64_t from, bool last,
+                                   litmus_tally *tally);
 
 /*
  * A case. Threads, addresses, events and dependencies are numbered from 0. A thread's program order

@@ -1,6 +1,6 @@
 //! What the calls answer: the library's own answer, and the types that say it.
 
-use crate::{Case, ADDRESSES};
+use crate::{Case, ADDRESSES, FIRST_RULE, RULES};
 use std::{fmt, ops};
 
 /// What the library answers, as in `litmus.h`. Fields that do not apply are 0.
@@ -61,7 +61,7 @@ pub fn meaning(number: u32) -> &'static str {
         3 => "a number is outside its range",
         4 => "a dependency, a write order entry or a pair may not stand there",
         5 => "not a permutation of the case's labels",
-        6 => "too little room in the buffer from the given place",
+        6 => "too little room in the buffer from the given place, or a count of the tally is full",
         7 => "no such model",
         11 => "a thread's order is not irreflexive and transitive",
         12 => "a thread's order leaves two of its own events unordered",
@@ -75,6 +75,8 @@ pub fn meaning(number: u32) -> &'static str {
         _ => "no such number",
     }
 }
+
+const LAST_RULE: u32 = FIRST_RULE + RULES as u32 - 1;
 
 /// A broken rule of the model, 11 to 18: the lowest, where several are broken.
 #[derive(Clone, Copy, Debug, PartialEq, Eq)]
@@ -135,7 +137,7 @@ impl Verdict {
                 length,
                 finals: Finals::new(answer.finals, addresses()),
             }),
-            rule @ 11..=18 => Some(Verdict::Broken {
+            rule @ FIRST_RULE..=LAST_RULE => Some(Verdict::Broken {
                 length,
                 rule: Rule(rule),
             }),
@@ -157,12 +159,21 @@ impl fmt::Display for Verdict {
 #[derive(Clone, Copy, Debug, PartialEq, Eq)]
 pub struct Refusal {
     pub number: u32,
-    /// Of a record, the byte where the fault lies, as in [`Answer`]; None under 5 to 7, and of a case,
-    /// which has no bytes.
+    /// Of a record, the byte where the fault lies, as in [`Answer`], and of a log from its start; None
+    /// under 5 to 7, and of a case, which has no bytes.
     pub place: Option<usize>,
 }
 
 impl Refusal {
+    /// Of bytes: only some numbers have a place.
+    pub(crate) fn of_bytes(number: u32, place: u64) -> Refusal {
+        let placed = matches!(number, 1..=4 | 23);
+        Refusal {
+            number,
+            place: placed.then_some(place as usize),
+        }
+    }
+
     /// Of a call on a case.
     pub(crate) fn of_case(answer: Answer) -> Refusal {
         Refusal {
@@ -175,11 +186,7 @@ impl Refusal {
 /// Of a call on a record.
 impl From<Answer> for Refusal {
     fn from(answer: Answer) -> Refusal {
-        let placed = matches!(answer.number, 1..=4 | 23);
-        Refusal {
-            number: answer.number,
-            place: placed.then_some(answer.place as usize),
-        }
+        Refusal::of_bytes(answer.number, answer.place)
     }
 }
 

@@ -1,6 +1,6 @@
 //! The functions of `litmus.h`.
 
-use crate::{Answer, Case, CaseAnswer, Choice, Part, Rows};
+use crate::{Answer, Case, CaseAnswer, Choice, LogAnswer, Part, Rows, Tally};
 
 // Not bundled, so that the wrapper itself, and a program that calls none of these, builds without
 // the archive.
@@ -40,6 +40,13 @@ extern "C" {
         room: usize,
         at: u64,
     ) -> Part;
+    pub fn litmus_log_judge(
+        bytes: *const u8,
+        size: usize,
+        from: u64,
+        last: bool,
+        tally: *mut Tally,
+    ) -> LogAnswer;
     pub fn litmus_case_read(record: *const u8, size: usize) -> CaseAnswer;
     pub fn litmus_case_write(c: Case, out: *mut u8, room: usize, at: u64) -> Answer;
     pub fn litmus_case_judge(c: Case, model: u64) -> Answer;

@@ -32,18 +32,20 @@
 //! );
 //! ```
 //!
-//! A program that builds its cases itself uses [`Case`]. The functions ending in `_raw` take any
-//! numbers and give the library's own [`Answer`].
+//! A program that builds its cases itself uses [`Case`]; one that judges records as they come uses
+//! [`Log`]. The functions ending in `_raw` take any numbers and give the library's own [`Answer`].
 
 mod answer;
 mod archive;
 mod case;
 mod class;
+mod log;
 
 pub use answer::{meaning, Answer, CaseAnswer, Choice, Finals, Part, Refusal, Rule, Verdict};
 pub use case::Case;
 pub use class::{compared, compared_raw, lesser, representative, representative_raw};
 pub use class::{same_class, write_representative, Lesser};
+pub use log::{judge_log_raw, Log, LogAnswer, LogSummary, Tally};
 
 use std::fmt;
 
@@ -68,6 +70,10 @@ pub const EVENTS: usize = 64;
 pub const DEPENDENCIES: usize = 96;
 /// The most bytes of a name, as in `litmus.h`.
 pub const NAME_BYTES: usize = 32;
+/// The number of the first rule, as in `litmus.h`.
+pub const FIRST_RULE: u32 = 11;
+/// How many rules there are, as in `litmus.h`.
+pub const RULES: usize = 8;
 /// How many final values an [`Answer`] has.
 pub const FINALS: usize = ADDRESSES;
 

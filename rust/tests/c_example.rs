@@ -1,7 +1,13 @@
-//! The C examples, compiled against the header and the archive, and how C lays out a case.
+//! The C examples, compiled against the header and the archive, and how C lays out its structs.
 
-use litmus::{Case, CaseAnswer, Choice};
-use std::fs;
+#[path = "common/lines.rs"]
+mod lines;
+
+use lines::lines;
+use litmus::{Case, CaseAnswer, Choice, LogAnswer, Tally};
+use ordinary::generate::any_records;
+use ordinary::random::Random;
+use std::fs::{self, File};
 use std::mem::{offset_of, size_of};
 use std::path::{Path, PathBuf};
 use std::process::{Command, Output};
@@ -170,23 +176,66 @@ fn cpp_builds_a_case() {
     }
 }
 
-/// Every field of a case, and of a choice, lies in C where it lies in Rust.
-#[test]
-fn cases_lie_alike() {
-    let mut places = vec![size_of::<Case>(), size_of::<CaseAnswer>()];
-    let mut lines = "at(sizeof(litmus_case));\nat(sizeof(litmus_case_answer));\n".to_string();
-    macro_rules! field {
-        ($($field:ident)*) => { $(
-            places.push(offset_of!(Case, $field));
-            lines += concat!("at(offsetof(litmus_case, ", stringify!($field), "));\n");
-        )* };
+/// Runs it with a file as standard input.
+fn run_on_input(program: &Path, file: &Path) -> Output {
+    let mut command = Command::new(program);
+    command.stdin(File::open(file).expect("a file"));
+    command.output().expect("the example starts")
+}
+
+/// Logs of any length, whole and cut inside a record.
+fn judges_logs(compiler: &[&str], name: &str) {
+    let program = compiled(compiler, &root().join("examples/c/log.c"), name);
+    let mut random = Random::new(70);
+    let examples = fs::read(root().join("examples/all.log")).expect("a log");
+    let long = any_records(&mut random, 400).concat();
+    assert!(long.len() > 200_000, "{}", long.len());
+    let file = temporary(&format!("{name}.log"));
+    for log in [
+        &[],
+        &examples[..],
+        &examples[..500],
+        &long,
+        &long[..long.len() - 1],
+    ] {
+        fs::write(&file, log).expect("it is written");
+        let output = run_on_input(&program, &file);
+        assert!(output.status.success());
+        assert_eq!(String::from_utf8_lossy(&output.stdout), lines(log));
     }
-    field!(edition threads addresses events initial kind thread address value dependencies);
-    field!(dependency_class dependency_from dependency_to writes rows name name_length);
+    let output = run_on_input(&program, &root());
+    assert!(!output.status.success() && output.stdout.is_empty());
+}
+
+#[test]
+fn c_judges_logs() {
+    judges_logs(C, "c_log");
+    judges_logs(OPTIMISED_C, "c_log_optimised");
+}
+
+/// Every field lies in C where it lies in Rust.
+#[test]
+fn structs_lie_alike() {
+    let (mut places, mut lines) = (Vec::new(), String::new());
+    macro_rules! fields {
+        ($rust:ident, $c:literal, $($field:ident)*) => {
+            places.push(size_of::<$rust>());
+            lines += concat!("at(sizeof(", $c, "));\n");
+            $(
+                places.push(offset_of!($rust, $field));
+                lines += concat!("at(offsetof(", $c, ", ", stringify!($field), "));\n");
+            )*
+        };
+    }
+    fields!(Case, "litmus_case", edition threads addresses events initial kind thread address);
+    fields!(Case, "litmus_case", value dependencies dependency_class dependency_from);
+    fields!(Case, "litmus_case", dependency_to writes rows name name_length);
+    fields!(CaseAnswer, "litmus_case_answer", answer);
     places.push(offset_of!(CaseAnswer, case));
     lines += "at(offsetof(litmus_case_answer, result));\n";
-    places.extend([size_of::<Choice>(), offset_of!(Choice, length)]);
-    lines += "at(sizeof(litmus_choice));\nat(offsetof(litmus_choice, length));\n";
+    fields!(Choice, "litmus_choice", which length);
+    fields!(Tally, "litmus_tally", records accepted broken);
+    fields!(LogAnswer, "litmus_log_answer", number ended place length);
     let source = temporary("layout.c");
     let text = format!(
         "#include \"litmus.h\"\n#include <stdio.h>\n\

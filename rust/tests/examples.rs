@@ -69,6 +69,20 @@ fn a_record_is_judged() {
 }
 
 #[test]
+fn a_log_is_judged() {
+    let counts = "records: 26, accepted: 7, rule 11: 1, rule 12: 1, rule 13: 2, rule 14: 1, rule 15: 4, rule 16: 6, rule 17: 2, rule 18: 2";
+    assert_eq!(
+        example("judge_a_log", &folder().join("all.log")),
+        format!("{counts}\n")
+    );
+    let refused = "records: 0, accepted: 0; then refused with 3: a number is outside its range";
+    assert_eq!(
+        example("judge_a_log", &folder().join("README.md")),
+        format!("{refused} (byte 0)\n")
+    );
+}
+
+#[test]
 fn a_case_is_built() {
     let file = Path::new(env!("CARGO_TARGET_TMPDIR")).join("built.litmus");
     assert_eq!(

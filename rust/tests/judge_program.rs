@@ -1,12 +1,20 @@
-//! The program `judge`, as the gate builds it: what it says of a record that can't be read, and that
-//! nothing it prints upsets a terminal.
+//! The program `judge`, as the gate builds it: what it says of a record that can't be read, that
+//! nothing it prints upsets a terminal, and that it says the same however its input comes.
 
+#[path = "common/program.rs"]
+mod program;
+
+use litmus::RECORD_BYTES;
+use ordinary::generate::{any_records, pieces, short_records};
+use ordinary::limits::EDITIONS;
+use ordinary::random::Random;
+use ordinary::tally::{stated_edition, Tally};
+use program::{interrupt, piped, read_by_read, read_until_it_fails};
 use std::ffi::OsStr;
 use std::fs;
-use std::io::Write;
 use std::os::unix::ffi::OsStrExt;
-use std::path::{Path, PathBuf};
-use std::process::{Command, Stdio};
+use std::path::PathBuf;
+use std::process::Output;
 
 /// One thread stores 1 and loads 1, and the name has the given bytes from byte 18 on.
 fn named(name: &[u8]) -> Vec<u8> {
@@ -16,21 +24,83 @@ fn named(name: &[u8]) -> Vec<u8> {
     record
 }
 
-/// What `judge` prints, which must be printable but for line ends.
-fn judge(words: &[&OsStr], input: &[u8]) -> String {
-    let program = Path::new(env!("CARGO_MANIFEST_DIR")).join("../target/bin/judge");
-    let mut command = Command::new(program);
-    command.args(words);
-    command.stdin(Stdio::piped()).stdout(Stdio::piped());
-    let mut child = command.spawn().expect("'make judge' builds the program");
-    let mut pipe = child.stdin.take().expect("a pipe");
-    pipe.write_all(input).expect("the input is read");
-    drop(pipe);
-    let output = child.wait_with_output().expect("the program ends").stdout;
+/// What `judge` printed, which must be printable but for line ends.
+fn printed(output: Output) -> String {
+    let output = output.stdout;
     for &byte in &output {
         assert!(byte == b'\n' || (32..=126).contains(&byte), "{output:?}");
     }
     String::from_utf8(output).expect("it is printable")
+}
+
+/// What `judge` prints.
+fn judge(words: &[&OsStr], input: &[u8]) -> String {
+    printed(piped("judge", words, &[input], |_| ()))
+}
+
+/// A log of both editions that is longer than a buffer, in pieces of any length; a short one, byte
+/// by byte.
+#[test]
+fn any_pieces() {
+    let mut random = Random::new(120);
+    for (most, count, least_bytes) in [(1, 60, 1_000), (3_000, 400, 200_000)] {
+        let records = match most {
+            1 => short_records(&mut random, count, 100),
+            _ => any_records(&mut random, count),
+        };
+        let mut times = Tally::default();
+        for record in &records {
+            times.add("records", stated_edition(record));
+        }
+        times.assert_each("records", EDITIONS, 5);
+        let bytes = records.concat();
+        assert!(bytes.len() > least_bytes, "{}", bytes.len());
+        let whole = judge(&[], &bytes);
+        let end = format!("Records judged: {}\n\n", records.len());
+        assert!(whole.ends_with(&end), "{whole}");
+        for run in [piped, read_by_read] {
+            let cut = pieces(&mut random, &bytes, most);
+            assert_eq!(printed(run("judge", &[], &cut, |_| ())), whole);
+        }
+    }
+}
+
+/// A read that a signal interrupts is no end of the input.
+#[test]
+fn signals() {
+    let mut random = Random::new(121);
+    let bytes = any_records(&mut random, 12).concat();
+    let whole = judge(&[], &bytes);
+    let cut = pieces(&mut random, &bytes, 1_000);
+    for run in [piped, read_by_read] {
+        assert_eq!(printed(run("judge", &[], &cut, interrupt)), whole);
+    }
+}
+
+/// Where a read fails it says so, and has answered the records that are surely whole: from their
+/// start on there are as many bytes as a record may have.
+#[test]
+fn a_read_that_fails() {
+    let mut random = Random::new(122);
+    for (count, least) in [(3, 0), (800, 100)] {
+        let records = short_records(&mut random, count, 200);
+        let bytes = records.concat();
+        let mut left = bytes.len();
+        let mut answered = 0;
+        while left >= RECORD_BYTES {
+            left -= records[answered].len();
+            answered += 1;
+        }
+        assert!(answered >= least, "{answered}");
+        let output = read_until_it_fails("judge", &bytes);
+        assert!(!output.stderr.is_empty());
+        let found = printed(output);
+        let end = match answered {
+            0 => "No record: the input is empty.\n\n".to_string(),
+            _ => format!("End of the input. Records judged: {answered}\n\n"),
+        };
+        assert_eq!(found + &end, judge(&[], &records[..answered].concat()));
+    }
 }
 
 /// Values are printed with all their digits.

@@ -2,7 +2,7 @@
 
 use litmus::{compared, lesser, representative, same_class, write_representative};
 use litmus::{judge, judge_raw, judged_name, meaning, name, read, read_raw, renumber};
-use litmus::{Answer, Case, CaseAnswer, Lesser, Model, Refusal, Rule, Verdict};
+use litmus::{Answer, Case, CaseAnswer, Lesser, Log, Model, Refusal, Rule, Tally, Verdict};
 use ordinary::answer::{MODEL, UNPRINTABLE};
 use ordinary::generate;
 use ordinary::judge::RULES;
@@ -78,6 +78,16 @@ fn kinds_and_classes() {
         let stated = format!(" LITMUS_{name} = {number}");
         assert!(HEADER.contains(&stated), "{name}");
     }
+}
+
+/// Here and in the header.
+#[test]
+fn rules_of_a_tally() {
+    assert_eq!(litmus::FIRST_RULE, *RULES.start());
+    assert_eq!(litmus::RULES, RULES.count());
+    let (first, count) = (litmus::FIRST_RULE, litmus::RULES);
+    let line = format!("enum {{ LITMUS_FIRST_RULE = {first}, LITMUS_RULES = {count} }};\n");
+    assert!(HEADER.contains(&line), "{line}");
 }
 
 /// A buffer of the most bytes takes any record.
@@ -233,6 +243,38 @@ fn classes_of_two() {
     assert_eq!(same_class(SMALL, &[]), refused(1, 0));
     assert_eq!(same_class(&[1, 9], SMALL), refused(3, 1));
     assert_eq!(same_class(&[1, 9], &[]), refused(3, 1));
+}
+
+/// A log's tally so far, and its summary in words.
+#[test]
+fn logs() {
+    let mut log = Log::new();
+    log.feed(&SMALL[..7]);
+    assert_eq!((log.tally(), log.has_ended()), (Tally::default(), false));
+    log.feed(&[&SMALL[7..], TWO_ORDERS, &SMALL[..4]].concat());
+    let mut tally = Tally::default();
+    (tally.records, tally.accepted, tally.broken[0]) = (2, 1, 1);
+    assert_eq!((log.tally(), log.has_ended()), (tally, false));
+    let cut = "then refused with 1: the bytes end inside a number or the name (byte 36)";
+    let counted = "records: 2, accepted: 1, rule 11: 1";
+    assert_eq!(log.finish().to_string(), format!("{counted}; {cut}"));
+
+    tally.accepted = u32::MAX;
+    let mut log = Log::with(tally);
+    log.feed(TWO_ORDERS);
+    assert_eq!(log.tally().records, 3);
+    log.feed(SMALL);
+    assert!(log.has_ended());
+    let full = log.finish();
+    tally.broken[0] = 2;
+    tally.records = 3;
+    assert_eq!(full.tally, tally);
+    let refusal = full.refusal.expect("a full count");
+    assert_eq!((refusal.number, refusal.place), (6, None));
+
+    let none = Log::new().finish();
+    assert_eq!(none.to_string(), "records: 0, accepted: 0");
+    assert_eq!((none.tally, none.refusal), (Tally::default(), None));
 }
 
 #[test]

@@ -2,6 +2,7 @@
 
 mod calls;
 mod damage;
+mod logs;
 mod names;
 mod program;
 mod sparse;
@@ -9,6 +10,7 @@ mod tied;
 
 pub use calls::{any_buffer, any_permutation};
 pub use damage::damaged;
+pub use logs::{any_records, pieces, record_of, refused, short_records};
 pub use names::{every_byte_of_a_name, printable};
 pub use sparse::{sparse, Duty};
 pub use tied::{counts_apart, last_rows_apart, one_event_off, relabelled, tied};

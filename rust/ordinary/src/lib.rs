@@ -9,6 +9,7 @@ pub mod case;
 pub mod generate;
 pub mod judge;
 pub mod limits;
+pub mod log;
 pub mod permutation;
 pub mod random;
 pub mod read;

@@ -26,6 +26,9 @@ pub const PRINTABLE: RangeInclusive<u8> = 32..=126;
 /// Most groups of seven bits in a number.
 pub const GROUPS: usize = 5;
 
+/// Greatest count of a log's records.
+pub const COUNT: u32 = u32::MAX;
+
 /// Labels that a permutation moves: threads or addresses.
 pub const LABELS: usize = if THREADS > ADDRESSES {
     THREADS

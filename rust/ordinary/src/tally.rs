@@ -5,6 +5,7 @@ use crate::case::Unfit;
 use crate::generate::printable;
 use crate::judge::{judge, PPCS, PPCW, RULES};
 use crate::limits::{EDITIONS, FIRST, SECOND};
+use crate::log::log;
 use crate::read;
 use std::collections::BTreeMap;
 use std::fmt;
@@ -42,6 +43,15 @@ impl Tally {
         }
     }
 
+    /// Counts the verdicts on a log's records by edition, under PPCs.
+    pub fn add_log(&mut self, bytes: &[u8]) {
+        let mut rest = bytes;
+        for (verdict, length) in log(bytes).records {
+            self.add(heading(stated_edition(rest), PPCS), verdict);
+            rest = &rest[length..];
+        }
+    }
+
     pub fn times(&self, heading: &str, number: u32) -> usize {
         let row = self.times.get(heading);
         row.and_then(|row| row.get(&number)).copied().unwrap_or(0)
@@ -58,6 +68,14 @@ impl Tally {
     /// Fails where dependencies were refused for a reason less than `least` times.
     pub fn assert_unfit(&self, least: usize) {
         self.assert_each(UNFIT, Unfit::ALL.map(|why| why as u32), least);
+    }
+
+    /// Fails where the records of logs gave a verdict less than `least` times for an edition.
+    pub fn assert_logs(&self, least: usize) {
+        for edition in EDITIONS {
+            let verdicts = [0].into_iter().chain(RULES);
+            self.assert_each(heading(edition, PPCS), verdicts, least);
+        }
     }
 
     /// Fails where judging gave one of its numbers less than `least` times for an edition and a

@@ -1,6 +1,7 @@
 //! The files in `examples/` are what `record` makes of their texts, and answer what the table says.
 
 use ordinary::judge::{judge, PPCS, PPCW};
+use ordinary::log::log;
 use ordinary::{read, text, write};
 use std::fs;
 use std::path::{Path, PathBuf};
@@ -86,6 +87,19 @@ fn every_record_is_stated() {
         }
     }
     assert_eq!(found, listed.len());
+}
+
+/// The log has all of them back to back.
+#[test]
+fn the_log_is_as_stated() {
+    let bytes = file("all.log");
+    let records = stated()
+        .into_iter()
+        .map(|line| file(&format!("{}.litmus", line.name)));
+    assert_eq!(bytes, records.collect::<Vec<_>>().concat());
+    let verdicts: Vec<u32> = log(&bytes).records.iter().map(|record| record.0).collect();
+    let strong: Vec<u32> = stated().iter().map(|line| line.numbers[1]).collect();
+    assert_eq!(verdicts, strong);
 }
 
 /// The guide has a row for each, which ends in the answer.

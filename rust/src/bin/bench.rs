@@ -1,17 +1,21 @@
 //! Times the library beside an ordinary optimised reader and judge, its two tests of rule 11 beside
-//! each other, and representatives beside all renumberings, on the same input in one run.
+//! each other, a log and the program for logs beside the records one by one, and representatives
+//! beside all renumberings, on the same input in one run.
 
 #[path = "record/built.rs"]
 mod built;
 
 use built::built;
-use litmus::{Rows, RECORD_BYTES};
+use litmus::{Log, Rows, RECORD_BYTES, RULES};
 use ordinary::judge::PPCS;
 use ordinary::limits::{EDITIONS, EVENTS, NAME, PRINTABLE, THREADS};
 use ordinary::permutation::COUNT;
 use ordinary::random::Random;
 use ordinary::{generate, rows, Case, Kind, Order};
+use std::fs::{self, File};
 use std::hint::black_box;
+use std::path::Path;
+use std::process::Command;
 use std::time::{Duration, Instant};
 
 /// How many records, and how many times every thread's order.
@@ -19,15 +23,23 @@ const INPUTS: usize = 500;
 /// How many events each of them has.
 const SIZES: [usize; 2] = [24, EVENTS];
 const ROUNDS: usize = 40;
+/// A log's pieces.
+const PIECE: usize = 65_536;
+/// How often the program's log has the records: its start weighs less the longer the log is.
+const TIMES: [usize; 2] = [1, 8];
 /// How many records are renumbered in all ways, which takes long.
 const FEW: usize = 2;
 const ORDINARY: &str = "                 ordinary";
+const ONE_BY_ONE: &str = "records one by one   ours";
+/// Where the programs are built.
+const TARGET: &str = concat!(env!("CARGO_MANIFEST_DIR"), "/../target");
 
 fn main() {
     println!("each time is the best of {ROUNDS} rounds, which take turns\n");
     for count in SIZES {
         for edition in EDITIONS {
             records(edition, count);
+            log(edition, count);
         }
         orders(count);
     }
@@ -136,6 +148,76 @@ fn records(edition: u32, count: usize) {
     );
     let heads = ["bytes to PPCs        ours", "verdict          ordinary"];
     judging.print(heads, |time| each(time, INPUTS, "a record"), 2);
+}
+
+/// Records back to back as a log, in one piece and in many, beside judging each where it lies.
+fn log(edition: u32, count: usize) {
+    let records: Vec<Vec<u8>> = accepted_cases(edition, count).iter().map(record).collect();
+    let log = [records.concat()];
+    let bytes = log[0].len();
+    println!("the same {INPUTS} records as a log, {bytes} bytes\n");
+    for (size, head) in [
+        (bytes, "a log in one piece   ours"),
+        (PIECE, "in 64 KiB pieces     ours"),
+    ] {
+        let judging = compare(&log, |log| fed(log, size), |log| one_by_one(log));
+        let heads = [head, ONE_BY_ONE];
+        judging.print(heads, |time| each(time, INPUTS, "a record"), 3);
+    }
+    program(&log[0]);
+}
+
+/// The program `judge_log` on a file, beside judging each record where it lies in a slice.
+fn program(log: &[u8]) {
+    let path = Path::new(TARGET).join("bin/judge_log");
+    if !path.exists() {
+        println!("there is no program judge_log: 'make judge_log' builds it\n");
+        return;
+    }
+    let file = Path::new(TARGET).join("bench.log");
+    for times in TIMES {
+        let log = [log.repeat(times)];
+        fs::write(&file, &log[0]).expect("it is written");
+        let records = times * INPUTS;
+        println!("the program judge_log on a file of {records} records, its start included\n");
+        let judging = compare(
+            &log,
+            |_| judged_by_program(&path, &file, records),
+            |log| one_by_one(log),
+        );
+        let heads = ["its start included   ours", ONE_BY_ONE];
+        judging.print(heads, |time| each(time, records, "a record"), 3);
+    }
+    fs::remove_file(&file).expect("the file");
+}
+
+/// 0 where it prints that so many records are all accepted.
+fn judged_by_program(path: &Path, log: &Path, records: usize) -> u64 {
+    let mut command = Command::new(path);
+    command.stdin(File::open(log).expect("a log"));
+    let output = command.output().expect("it starts");
+    let expected = format!("{records}\n{records}\n{}", "0\n".repeat(RULES + 2));
+    u64::from(output.stdout != expected.as_bytes())
+}
+
+/// 0 where a log of so many accepted records is judged to its end.
+fn fed(bytes: &[u8], size: usize) -> u64 {
+    let mut log = Log::new();
+    bytes.chunks(size).for_each(|piece| log.feed(piece));
+    let found = log.finish();
+    u64::from(found.refusal.is_some() || found.tally.accepted as usize != INPUTS)
+}
+
+/// 0 where every record is accepted.
+fn one_by_one(bytes: &[u8]) -> u64 {
+    let mut rest = bytes;
+    let mut refused = 0;
+    while !rest.is_empty() {
+        let answer = litmus::judge_raw(rest, PPCS);
+        refused += u64::from(answer.number);
+        rest = &rest[answer.length as usize..];
+    }
+    refused
 }
 
 /// Rule 11 alone: the test that judging uses beside the plain one.
