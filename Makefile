@@ -1,4 +1,4 @@
-.PHONY: test demo judge bench archive
+.PHONY: test demo judge judge_log bench archive
 RECORDS = $(sort $(wildcard examples/*.litmus))
 
 # all proofs, must-fail edits, programs and tests; the last line is 'N passed, 0 failed'
@@ -13,8 +13,12 @@ demo: judge
 judge:
 	rt check judge
 
+# the program target/bin/judge_log
+judge_log:
+	rt check judge_log
+
 # times beside an ordinary Rust implementation
-bench: archive
+bench: archive judge_log
 	cd rust && cargo run --release --offline --bin bench
 
 # the static library that C and Rust link
