@@ -10,6 +10,7 @@ use lib.Dec.{leb, ltb}
 use lib.ListN.{length, take, drop, length-drop, take-append-drop}
 use lib.Seq.{length-take-le, take-take, take-nil}
 use borrow.Author.Tests.{ltb-false, le-leb, lt-leb}
+use Rattle.finite.proofs.Tests.{or-r}
 use Rattle.finite.proofs.All.{all-front}
 use Rattle.model.specs.Limits.{mostEdition}
 use Rattle.model.specs.Bound.{mostBytes}
@@ -128,13 +129,13 @@ module _ (b : List ℕ) (p : Progress) (P : Ready b p) (b′ : List ℕ) (got : 
   after-held rest = rw (P .going, sub-zero)
 
   -- more bytes are kept
-  turn-held : isDue have (p .due) ≡ false → p .failed ≡ false → Onward b p b′ (heldOn have p)
+  turn-held : isDue (got .ended) have (p .due) ≡ false → p .failed ≡ false → Onward b p b′ (heldOn have p)
   turn-held n g = record {
     fed = λ _. more piece (λ rest. after-held rest ∙ behind rest);
     ready = λ _. record {
       going = P .going;
       held = record { from = omega arith; inside = room };
-      few = omega (arith, ltb-false (mostBytes mostEdition) have (or-r-false (leb (p .due) have) (ltb (mostBytes mostEdition) have) n));
+      few = omega (arith, ltb-false (mostBytes mostEdition) have (or-r-false (leb (p .due) have) (ltb (mostBytes mostEdition) have) (or-r-false (got .ended) (leb (p .due) have || ltb (mostBytes mostEdition) have) n)));
       placed = P .placed;
     };
     failed = λ h. absurd (true≢false (sym h ∙ g));
@@ -173,14 +174,13 @@ module _ (b : List ℕ) (p : Progress) (P : Ready b p) (b′ : List ℕ) (got : 
 
   turn : p .failed ≡ false → Onward b p b′ (afterRead b′ got p)
   unfolding afterRead
-  turn g = by (got .failed) (got .ended) (isDue have (p .due)) refl
+  turn g = by (got .failed) (isDue (got .ended) have (p .due)) refl
     where
-      by : (x y z : Bool) → isDue have (p .due) ≡ z
-          → Onward b p b′ (cond x (givenUp p) (cond y (judgedUpTo b′ have true p) (cond z (judgedUpTo b′ have false p) (heldOn have p))))
-      by true y z e = turn-failed
-      by false true z e = turn-judged true
-      by false false true e = turn-judged false
-      by false false false e = turn-held e g
+      by : (x y : Bool) → isDue (got .ended) have (p .due) ≡ y
+          → Onward b p b′ (cond x (givenUp p) (cond y (judgedUpTo b′ have (got .ended) p) (heldOn have p)))
+      by true y e = turn-failed
+      by false true e = turn-judged (got .ended)
+      by false false e = turn-held e g
 
 -- ---- the log
 
@@ -304,29 +304,29 @@ finished p f d g = running (f .reached) .ended d g
 
 -- ---- what a read comes to
 
-pub due-now : (have due : ℕ) → due ≤ have → true ≡ isDue have due
-due-now have due l = rw (le-leb due have l)
+module _ (ended : Bool) (have due : ℕ) where
+  pub due-end : ended ≡ true → true ≡ isDue ended have due
+  due-end e = rw e
 
-pub due-late : (have due most : ℕ) → most ≡ mostBytes mostEdition → have < due → ltb most have ≡ isDue have due
-due-late have due most e l = rw (lt-leb due have l, e)
+  pub due-now : due ≤ have → true ≡ isDue ended have due
+  due-now l = rw (le-leb due have l) (sym (or-r ended true refl))
+
+  pub due-late : (most : ℕ) → most ≡ mostBytes mostEdition → ended ≡ false → have < due → ltb most have ≡ isDue ended have due
+  due-late most e n l = rw (n, lt-leb due have l, e)
 
 module _ (b : List ℕ) (got : Got) (p : Progress) where
   pub read-failed : (r : Progress) → r ≡ givenUp p → got .failed ≡ true → r ≡ afterRead b got p
   unfolding afterRead
   read-failed r e f = e ∙ rw f
 
-  pub read-ended : (r : Progress) → r ≡ judgedUpTo b (got .have) true p → got .failed ≡ false → got .ended ≡ true → r ≡ afterRead b got p
-  unfolding afterRead
-  read-ended r e f g = e ∙ rw (f, g)
-
-  module _ (y : Bool) (d : y ≡ isDue (got .have) (p .due)) (f : got .failed ≡ false) (g : got .ended ≡ false) where
-    pub read-due : (r : Progress) → r ≡ judgedUpTo b (got .have) false p → y ≡ true → r ≡ afterRead b got p
+  module _ (y : Bool) (d : y ≡ isDue (got .ended) (got .have) (p .due)) (f : got .failed ≡ false) where
+    pub read-due : (r : Progress) → r ≡ judgedUpTo b (got .have) (got .ended) p → y ≡ true → r ≡ afterRead b got p
     unfolding afterRead
-    read-due r e h = e ∙ rw (f, g, sym d ∙ h)
+    read-due r e h = e ∙ rw (f, sym d ∙ h)
 
     pub read-held : (r : Progress) → r ≡ heldOn (got .have) p → y ≡ false → r ≡ afterRead b got p
     unfolding afterRead
-    read-held r e h = e ∙ rw (f, g, sym d ∙ h)
+    read-held r e h = e ∙ rw (f, sym d ∙ h)
 
 -- ---- the beginning
 

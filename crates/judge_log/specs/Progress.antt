@@ -51,8 +51,9 @@ after place have a = record {
 abbrev pub heldOn : (have : ℕ) → Progress → Progress
 heldOn have p = record { at = 0; have = have; place = p .place; tally = p .tally; due = p .due; done = p .done; failed = p .failed; number = p .number; end = p .end }
 
-abbrev pub isDue : (have due : ℕ) → Bool
-isDue have due = leb due have || ltb (mostBytes mostEdition) have
+-- so many bytes are judged now: the input has ended, or they are due, or more than any record has
+abbrev pub isDue : (ended : Bool) (have due : ℕ) → Bool
+isDue ended have due = ended || (leb due have || ltb (mostBytes mostEdition) have)
 
 -- the bytes of the buffer b up to have are judged, the last of the log or not
 abbrev pub judgedUpTo : List ℕ → (have : ℕ) (last : Bool) → Progress → Progress
@@ -62,8 +63,7 @@ judgedUpTo b have last p = after (p .place) have (judgeLog (p .place) last (take
 unfoldable pub afterRead : List ℕ → Got → Progress → Progress
 afterRead b got p =
     cond (got .failed) (givenUp p)
-    (cond (got .ended) (judgedUpTo b (got .have) true p)
-    (cond (isDue (got .have) (p .due)) (judgedUpTo b (got .have) false p) (heldOn (got .have) p)))
+    (cond (isDue (got .ended) (got .have) (p .due)) (judgedUpTo b (got .have) (got .ended) p) (heldOn (got .have) p))
 
 -- the log goes on: what is kept lies in the buffer and is no more than a record may have, and its place is at most what so many records
 -- take

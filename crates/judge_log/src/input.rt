@@ -95,17 +95,21 @@ fn held_on(have: usize, p: Progress) -> Progress
     r
 }
 
-// Whether so many bytes are judged now: they are due, or are more than any record has, so that the buffer always has room.
-fn is_due(have: usize, due: usize) -> bool
-    ensures { λ r. ⌜ r ≡ isDue have due ⌝ }
+// Whether so many bytes are judged now: the input has ended, they are due, or they are more than any record has, so that the buffer
+// always has room.
+fn is_due(ended: bool, have: usize, due: usize) -> bool
+    ensures { λ r. ⌜ r ≡ isDue ended have due ⌝ }
 {
+    if ended {
+        return true;
+    }
     if due <= have {
         return true;
     }
     Case::MOST_BYTES < have
 }
 
-// What a read came to: judges what the buffer holds then, if it is due, or the input has ended.
+// What a read came to: judges what the buffer holds then, if it is due.
 fn after_read(buffer: &[u8], got: Got, p: Progress) -> Progress
     requires { ⌜ Room (length (now buffer)) ⌝ }
     requires { ⌜ got .have ≤ length (now buffer) ⌝ }
@@ -115,11 +119,8 @@ fn after_read(buffer: &[u8], got: Got, p: Progress) -> Progress
     if got.failed {
         return given_up(p);
     }
-    if got.ended {
-        return judge_held(buffer, got.have, true, p);
-    }
-    if is_due(got.have, p.due) {
-        return judge_held(buffer, got.have, false, p);
+    if is_due(got.ended, got.have, p.due) {
+        return judge_held(buffer, got.have, got.ended, p);
     }
     held_on(got.have, p)
 }

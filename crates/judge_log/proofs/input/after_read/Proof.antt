@@ -1,7 +1,7 @@
 -- `judge_log::input::after_read` meets its contract.
 -- Assumes nothing.
 use borrow.Author.Needs.{needs}
-use Rattle.judge_log.proofs.Steps.{read-failed, read-ended, read-due, read-held}
+use Rattle.judge_log.proofs.Steps.{read-failed, read-due, read-held}
 use Rattle.judge_log.proofs.input.after_read.Statement.{statement}
 use Rattle.judge_log.proofs.input.after_read.Tie as tie
 
@@ -11,8 +11,6 @@ after-read-spec =
     (tie.spec
     (λ c κs. search needs)
     (λ c. search read-failed)
-    (λ c κs. search needs)
-    (λ c. search read-ended)
     (λ c κs. search needs)
     (λ c κs. search needs)
     (λ c. search read-due)
