@@ -8,7 +8,7 @@ use mathlib.Core.Bool.{Bool, true, false, not, cond, _||_, true≢false}
 use mathlib.Core.List.{List, [], _∷_, _++_, append-assoc, append-nil}
 use lib.Dec.{leb, ltb}
 use lib.ListN.{length, take, drop, length-drop, take-append-drop}
-use lib.Seq.{length-take-le, take-take, take-nil}
+use lib.Seq.{length-take-le, take-take, take-nil, drop-append-le}
 use borrow.Author.Tests.{ltb-false, le-leb, lt-leb}
 use Rattle.finite.proofs.Tests.{or-r}
 use Rattle.finite.proofs.All.{all-front}
@@ -21,41 +21,60 @@ use Rattle.log_model.specs.Log.{logFrom, Summary, logTallied, summary}
 use Rattle.log_model.specs.Pieces.{Answer, judgeLog, Fed, going, over, following, completed, joined}
 use Rattle.log_model.proofs.Cut.{on-call, last-call, ended-last}
 use Rattle.log_model.specs.Claim.{Placed}
-use Rattle.log_model.proofs.Kept.{placed-call, place-fits, ending-within, call-small, judged-within}
+use Rattle.log_model.proofs.Kept.{placed-call, place-fits, ending-within, judged-within}
 use Rattle.log.specs.declared.JudgedLog.{JudgedLog}
-use Rattle.log.specs.Shown.{judgedShown}
+use Rattle.log.specs.Shown.{judgedShown, PartJudged}
 use Rattle.stream.specs.declared.Got.{Got}
 use Rattle.stream.specs.Kept.{kept, ReadOn}
 use Rattle.judge_log.specs.declared.input.Progress.{Progress}
-use Rattle.judge_log.specs.Progress.{Room, begun, givenUp, after, heldOn, isDue, judgedUpTo, afterRead, Ready, Stepped, Reached, first, next, Finished, summaryOf, WholeLog}
+use Rattle.judge_log.specs.Progress.{Room, begun, givenUp, after, heldOn, isDue, JudgedHeld, AfterRead, unreadable, judging, keeping, Ready, Stepped, Reached, first, next, Finished, summaryOf, WholeLog}
 
 -- ---- the call
 
 pub prefix-long : (n : ℕ) (b : List ℕ) → n ≤ length b → n ≡ length (take n b)
 prefix-long n b l = sym (length-take-le n b l)
 
-module _ (place have : ℕ) (b : List ℕ) (R : Room (length b)) (l : have ≤ length b) (octets : Octets b) (t : Tally) (P : Placed place t) (final : Bool) where
+module _ (have : ℕ) (b : List ℕ) (R : Room (length b)) (l : have ≤ length b) (octets : Octets b) (p : Progress) (P : Placed (p .place) (p .tally)) (final : Bool)
+    (r : JudgedLog) (J : PartJudged (p .place) final (take have b) (p .tally) r) where
+  abbrev front : List ℕ
+  front = take (J .upto) b
+
+  long : length (take have b) ≡ have
+  long = length-take-le have b l
+
+  within : J .upto ≤ have
+  within = omega (arith, J .within, long)
+
+  front-long : length front ≡ J .upto
+  front-long = length-take-le (J .upto) b (omega (arith, within))
+
   abbrev call : Answer
-  call = judgeLog place final (take have b) t
+  call = judgeLog (p .place) final front (p .tally)
+
+  is-call : r ≡ judgedShown call
+  is-call = J .same ∙ ap (λ (s : List ℕ). judgedShown (judgeLog (p .place) final s (p .tally))) (take-take (J .upto) have b within)
 
   -- no place goes past 64 bits
-  pub place-sum : (r : JudgedLog) → r ≡ judgedShown call → place + r .answer .length < 2 ^ 64
-  place-sum r e = rw e (omega (arith, place-fits (place + call .judged) (call .tally) (placed-call place final (take have b) t P)))
+  pub place-sum : p .place + r .answer .length < 2 ^ 64
+  place-sum = rw is-call (omega (arith, place-fits (p .place + call .judged) (call .tally) (placed-call (p .place) final front (p .tally) P)))
 
   -- what was judged is no more than there was
-  pub length-within : (r : JudgedLog) → r ≡ judgedShown call → r .answer .length ≤ have
-  length-within r e = rw e (let n : length (take have b) ≡ have = length-take-le have b l in omega (arith, judged-within place final (take have b) t))
+  pub length-within : r .answer .length ≤ have
+  length-within = rw is-call (omega (arith, judged-within (p .place) final front (p .tally), front-long, within))
 
   end-small : call .ending .place < 2 ^ 64
   end-small =
-      let h : call .ending .place ≤ place + length (take have b) = ending-within (take have b) (all-front _ (take have b) (drop have b) (rw take-append-drop (slice-bytes b octets))) place final t in
-      let n : length (take have b) ≡ have = length-take-le have b l in
-      omega (arith, place-fits place t P, R .most)
+      let h : call .ending .place ≤ p .place + length front = ending-within front (all-front _ front (drop (J .upto) b) (rw take-append-drop (slice-bytes b octets))) (p .place) final (p .tally) in
+      omega (arith, place-fits (p .place) (p .tally) P, R .most, front-long, within)
 
-  pub judged-held : (r : JudgedLog) → r ≡ judgedShown call
-      → _≡_ {A = Progress} (record { at = r .answer .length; have = have; place = place + r .answer .length; tally = r .tally; due = 2 * (have - r .answer .length); done = r .answer .ended; failed = false; number = r .answer .number; end = r .answer .place }) (after place have call)
-  unfolding after
-  judged-held r e = rw (e, mod-eq-of-lt end-small)
+  pub judged-held : JudgedHeld b have final p (record { at = r .answer .length; have = have; place = p .place + r .answer .length; tally = r .tally; due = 2 * (have - r .answer .length); done = r .answer .ended; failed = false; number = r .answer .number; end = r .answer .place })
+  judged-held = record {
+    upto = J .upto;
+    within = within;
+    whole = λ h. J .whole h ∙ long;
+    same = unfold after in rw (is-call, mod-eq-of-lt end-small);
+    few = λ h. omega (arith, J .few h, long);
+  }
 
 -- ---- a turn
 
@@ -116,11 +135,6 @@ module _ (b : List ℕ) (p : Progress) (P : Ready b p) (b′ : List ℕ) (got : 
   behind : (rest : List ℕ) → whole (take have b′ ++ rest) ≡ completed (fedOf b p) (piece ++ rest)
   behind rest = ap (λ (s : List ℕ). whole (s ++ rest)) both ∙ ap whole (append-assoc held piece rest) ∙ sym (before (piece ++ rest))
 
-  -- after a call
-  after-following : (a : Answer) → fedOf b′ (after (p .place) have a) ≡ following (p .place) (take have b′) a
-  unfolding fedOf after
-  after-following a = rw (drop-take (a .judged) have b′)
-
   turn-failed : Onward b p b′ (givenUp p)
   turn-failed = record { fed = λ h. absurd (true≢false h); ready = λ h. absurd (true≢false h); failed = λ _. refl }
 
@@ -141,46 +155,75 @@ module _ (b : List ℕ) (p : Progress) (P : Ready b p) (b′ : List ℕ) (got : 
     failed = λ h. absurd (true≢false (sym h ∙ g));
   }
 
-  abbrev answer : Bool → Answer
-  answer final = judgeLog (p .place) final (take have b′) (p .tally)
+  module _ (r : Progress) (H : JudgedHeld b′ have (got .ended) p r) where
+    abbrev taken : List ℕ
+    taken = take (H .upto) b′
 
-  fed-on : (final : Bool) → Then (fedOf b p) (fedOf b′ (after (p .place) have (answer final)))
-  fed-on true = last piece (after-following (answer true) ∙ ended-whole ∙ ap over (end ∙ ap (λ (s : List ℕ). completed (fedOf b p) s) (append-nil piece)))
-    where
-      ended-whole : following (p .place) (take have b′) (answer true) ≡ over (record { tally = answer true .tally; ending = answer true .ending })
-      ended-whole = rw (ended-last (p .place) (take have b′) (p .tally))
+    -- the bytes that were left for later
+    abbrev later : List ℕ
+    later = drop (H .upto) (take have b′)
 
-      end : _≡_ {A = Summary} (record { tally = answer true .tally; ending = answer true .ending }) (completed (fedOf b p) (piece ++ []))
-      end = last-call (p .place) (take have b′) (p .tally) ∙ ap whole (sym (append-nil (take have b′))) ∙ behind []
-  fed-on false =
-      more piece (λ rest. ap (λ (f : Fed). completed f rest) (after-following (answer false)) ∙ on-call (p .place) (take have b′) rest (p .tally) ∙ behind rest)
+    parts : take have b′ ≡ taken ++ later
+    parts = sym (take-append-drop (H .upto) (take have b′)) ∙ ap (λ (s : List ℕ). s ++ later) (take-take (H .upto) have b′ (H .within))
 
-  ready-on : (final : Bool) → answer final .ended ≡ false → Ready b′ (after (p .place) have (answer final))
-  unfolding after
-  ready-on true e = absurd (true≢false (sym (ended-last (p .place) (take have b′) (p .tally)) ∙ e))
-  ready-on false e =
-      let long : length (take have b′) ≡ have = length-take-le have b′ room in
-      let few : length (drop (answer false .judged) (take have b′)) ≤ mostBytes mostEdition = call-small (p .place) (take have b′) (p .tally) e in
-      record {
-        going = e;
-        held = record { from = omega (arith, judged-within (p .place) false (take have b′) (p .tally)); inside = room };
-        few = omega (arith, rw (length-drop (answer false .judged) (take have b′)) at few);
-        placed = placed-call (p .place) false (take have b′) (p .tally) (P .placed);
-      }
+    abbrev answer : Answer
+    answer = judgeLog (p .place) (got .ended) taken (p .tally)
 
-  turn-judged : (final : Bool) → Onward b p b′ (judgedUpTo b′ have final p)
-  unfolding after
-  turn-judged final = record { fed = λ _. fed-on final; ready = ready-on final; failed = λ h. absurd (true≢false (sym h)) }
+    inside : answer .judged ≤ length taken
+    inside = judged-within (p .place) (got .ended) taken (p .tally)
 
-  turn : p .failed ≡ false → Onward b p b′ (afterRead b′ got p)
-  unfolding afterRead
-  turn g = by (got .failed) (isDue (got .ended) have (p .due)) refl
-    where
-      by : (x y : Bool) → isDue (got .ended) have (p .due) ≡ y
-          → Onward b p b′ (cond x (givenUp p) (cond y (judgedUpTo b′ have (got .ended) p) (heldOn have p)))
-      by true y e = turn-failed
-      by false true e = turn-judged (got .ended)
-      by false false e = turn-held e g
+    -- what is left of the bytes that were judged, and those for later
+    left : kept b′ (answer .judged) have ≡ drop (answer .judged) taken ++ later
+    left = sym (drop-take (answer .judged) have b′) ∙ ap (drop (answer .judged)) parts ∙ drop-append-le (answer .judged) taken later inside
+
+    after-following : (rest : List ℕ) → completed (fedOf b′ (after (p .place) have answer)) rest ≡ completed (following (p .place) taken answer) (later ++ rest)
+    unfolding fedOf after
+    after-following rest = go (answer .ended) refl
+      where
+        go : (y : Bool) → answer .ended ≡ y
+            → completed (cond y (over (record { tally = answer .tally; ending = answer .ending })) (going (kept b′ (answer .judged) have) (p .place + answer .judged) (answer .tally))) rest
+            ≡ completed (cond y (over (record { tally = answer .tally; ending = answer .ending })) (going (drop (answer .judged) taken) (p .place + answer .judged) (answer .tally))) (later ++ rest)
+        go true e = refl
+        go false e = ap (λ (s : List ℕ). logTallied (answer .tally) (logFrom (p .place + answer .judged) s)) (ap (λ (s : List ℕ). s ++ rest) left ∙ append-assoc (drop (answer .judged) taken) later rest)
+
+    joined-again : (rest : List ℕ) → whole (taken ++ (later ++ rest)) ≡ whole (take have b′ ++ rest)
+    joined-again rest = ap whole (sym (append-assoc taken later rest) ∙ ap (λ (s : List ℕ). s ++ rest) (sym parts))
+
+    -- in the middle of the log
+    following-on : got .ended ≡ false → (rest : List ℕ) → completed (following (p .place) taken answer) rest ≡ whole (taken ++ rest)
+    following-on n rest = rw n (on-call (p .place) taken rest (p .tally))
+
+    fed-more : got .ended ≡ false → Then (fedOf b p) (fedOf b′ r)
+    fed-more n = more piece (λ rest. rw (H .same) (after-following rest ∙ following-on n (later ++ rest) ∙ joined-again rest ∙ behind rest))
+
+    -- at its end
+    fed-last : got .ended ≡ true → Then (fedOf b p) (fedOf b′ r)
+    unfolding fedOf after
+    fed-last y = last piece (rw (H .same, y, ended-last (p .place) taken (p .tally)) (ap over (last-call (p .place) taken (p .tally) ∙ ap whole (all ∙ sym (append-nil (take have b′))) ∙ behind [] ∙ ap (λ (s : List ℕ). completed (fedOf b p) s) (append-nil piece))))
+      where
+        all : taken ≡ take have b′
+        all = ap (λ (i : ℕ). take i b′) (H .whole y)
+
+    fed-on : (y : Bool) → got .ended ≡ y → Then (fedOf b p) (fedOf b′ r)
+    fed-on true y = fed-last y
+    fed-on false n = fed-more n
+
+    ready-on : r .done ≡ false → Ready b′ r
+    ready-on e = record {
+      going = e;
+      held = rw (H .same) (unfold after in record { from = omega (arith, inside, length-take-le (H .upto) b′ (omega (arith, H .within, room)), H .within); inside = room });
+      few = rw (H .same) (unfold after in rw (H .same) at (H .few e));
+      placed = rw (H .same) (unfold after in placed-call (p .place) (got .ended) taken (p .tally) (P .placed));
+    }
+
+    turn-judged : Onward b p b′ r
+    unfolding after
+    turn-judged = record { fed = λ _. fed-on (got .ended) refl; ready = ready-on; failed = λ h. absurd (true≢false (sym (rw (H .same) at h))) }
+
+  turn : p .failed ≡ false → (r : Progress) → AfterRead b′ got p r → Onward b p b′ r
+  turn g r (unreadable f e) = rw e turn-failed
+  turn g r (judging d H) = turn-judged r H
+  turn g r (keeping n e) = rw e (turn-held n g)
 
 -- ---- the log
 
@@ -279,7 +322,7 @@ running : {b : List ℕ} {p : Progress} → Reached b p → Running b p
 running (first b R) = running-first b R
 running (next {b} {b′} {p} {r} h d S) =
     let N : Running b p = running h in
-    running-on b p N d b′ r (rw (S .same) (turn b p (N .ready d) b′ (S .got) (S .read) (N .going d))) (S .read .room)
+    running-on b p N d b′ r (turn b p (N .ready d) b′ (S .got) (S .read) (N .going d) r (S .after-read)) (S .read .room)
 
 -- ---- the loop
 
@@ -314,19 +357,15 @@ module _ (ended : Bool) (have due : ℕ) where
   pub due-late : (most : ℕ) → most ≡ mostBytes mostEdition → ended ≡ false → have < due → ltb most have ≡ isDue ended have due
   due-late most e n l = rw (n, lt-leb due have l, e)
 
-module _ (b : List ℕ) (got : Got) (p : Progress) where
-  pub read-failed : (r : Progress) → r ≡ givenUp p → got .failed ≡ true → r ≡ afterRead b got p
-  unfolding afterRead
-  read-failed r e f = e ∙ rw f
+module _ (b : List ℕ) (got : Got) (p : Progress) (y : Bool) (d : y ≡ isDue (got .ended) (got .have) (p .due)) (r : Progress) where
+  pub read-due : JudgedHeld b (got .have) (got .ended) p r → y ≡ true → AfterRead b got p r
+  read-due H h = judging (sym d ∙ h) H
 
-  module _ (y : Bool) (d : y ≡ isDue (got .ended) (got .have) (p .due)) (f : got .failed ≡ false) where
-    pub read-due : (r : Progress) → r ≡ judgedUpTo b (got .have) (got .ended) p → y ≡ true → r ≡ afterRead b got p
-    unfolding afterRead
-    read-due r e h = e ∙ rw (f, sym d ∙ h)
+  pub read-held : r ≡ heldOn (got .have) p → y ≡ false → AfterRead b got p r
+  read-held e h = keeping (sym d ∙ h) e
 
-    pub read-held : (r : Progress) → r ≡ heldOn (got .have) p → y ≡ false → r ≡ afterRead b got p
-    unfolding afterRead
-    read-held r e h = e ∙ rw (f, sym d ∙ h)
+pub read-failed : (b : List ℕ) (got : Got) (p r : Progress) → r ≡ givenUp p → got .failed ≡ true → AfterRead b got p r
+read-failed b got p r e f = unreadable f e
 
 -- ---- the beginning
 

@@ -2,7 +2,7 @@
 -- Assumes nothing.
 use Prim.Native.Nat.{ℕ, _+_, _-_, _*_, _≤_, _<_}
 use mathlib.Core.Path.{_≡_}
-use mathlib.Core.Bool.{Bool, true, false, cond, _||_}
+use mathlib.Core.Bool.{Bool, true, false, _||_}
 use mathlib.Core.List.{List}
 use lib.Dec.{leb, ltb}
 use lib.ListN.{length, take}
@@ -55,15 +55,20 @@ heldOn have p = record { at = 0; have = have; place = p .place; tally = p .tally
 abbrev pub isDue : (ended : Bool) (have due : ℕ) → Bool
 isDue ended have due = ended || (leb due have || ltb (mostBytes mostEdition) have)
 
--- the bytes of the buffer b up to have are judged, the last of the log or not
-abbrev pub judgedUpTo : List ℕ → (have : ℕ) (last : Bool) → Progress → Progress
-judgedUpTo b have last p = after (p .place) have (judgeLog (p .place) last (take have b) (p .tally))
+-- the bytes of the buffer b up to have are judged: all, where they are the last of the log, and else as far as the code likes, so long
+-- as no more are left than a record may have
+pub record JudgedHeld (b : List ℕ) (have : ℕ) (last : Bool) (p r : Progress) : Type 0 where
+  pub upto : ℕ
+  pub within : upto ≤ have
+  pub whole : last ≡ true → upto ≡ have
+  pub same : r ≡ after (p .place) have (judgeLog (p .place) last (take upto b) (p .tally))
+  pub few : r .done ≡ false → have - r .at ≤ mostBytes mostEdition
 
--- what a read came to, which left the buffer b
-unfoldable pub afterRead : List ℕ → Got → Progress → Progress
-afterRead b got p =
-    cond (got .failed) (givenUp p)
-    (cond (isDue (got .ended) (got .have) (p .due)) (judgedUpTo b (got .have) (got .ended) p) (heldOn (got .have) p))
+-- what a read came to, which left the buffer b: the input can't be read, or the bytes are judged if they are due, or else kept
+pub data AfterRead (b : List ℕ) (got : Got) (p r : Progress) : Type 0 where
+  unreadable : got .failed ≡ true → r ≡ givenUp p → AfterRead b got p r
+  judging : isDue (got .ended) (got .have) (p .due) ≡ true → JudgedHeld b (got .have) (got .ended) p r → AfterRead b got p r
+  keeping : isDue (got .ended) (got .have) (p .due) ≡ false → r ≡ heldOn (got .have) p → AfterRead b got p r
 
 -- the log goes on: what is kept lies in the buffer and is no more than a record may have, and its place is at most what so many records
 -- take
@@ -77,7 +82,7 @@ pub record Ready (b : List ℕ) (p : Progress) : Type 0 where
 pub record Stepped (b : List ℕ) (p : Progress) (b′ : List ℕ) (r : Progress) : Type 0 where
   pub got : Got
   pub read : ReadOn b (p .at) (p .have) b′ got
-  pub same : r ≡ afterRead b′ got p
+  pub after-read : AfterRead b′ got p r
 
 -- read by read, from the start of the log
 pub data Reached : List ℕ → Progress → Type 0 where

@@ -1,10 +1,9 @@
 // The log on an input, judged piece by piece.
 ghost use mathlib.Core.Path.{_≡_};
 ghost use Prim.Native.Nat.{_≤_};
-ghost use lib.ListN.{length, take};
-ghost use Rattle.log_model.specs.Pieces.{judgeLog};
+ghost use lib.ListN.{length};
 ghost use Rattle.log_model.specs.Claim.{Placed};
-ghost use Rattle.judge_log.specs.Progress.{Room, begun as begunAs, givenUp, after, heldOn, isDue, afterRead, Ready, Stepped, Finished};
+ghost use Rattle.judge_log.specs.Progress.{Room, begun as begunAs, givenUp, JudgedHeld, heldOn, isDue, AfterRead, Ready, Stepped, Finished};
 use case::Case;
 use litmus::Tally;
 use stream::Got;
@@ -66,10 +65,10 @@ fn judge_held(buffer: &[u8], have: usize, last: bool, p: Progress) -> Progress
     requires { ⌜ Room (length (now buffer)) ⌝ }
     requires { ⌜ have ≤ length (now buffer) ⌝ }
     requires { ⌜ Placed (p .place) (p .tally) ⌝ }
-    ensures { λ r. ⌜ r ≡ after (p .place) have (judgeLog (p .place) last (take have (now (buffer .entry))) (p .tally)) ⌝ }
+    ensures { λ r. ⌜ JudgedHeld (now (buffer .entry)) have last p r ⌝ }
 {
     let tally = p.tally;
-    let judged = litmus::judged_log(&buffer[..have], p.place, last, tally);
+    let judged = litmus::judged_part(&buffer[..have], p.place, last, tally);
     let answer = judged.answer;
     let tally = judged.tally;
     Progress {
@@ -114,7 +113,7 @@ fn after_read(buffer: &[u8], got: Got, p: Progress) -> Progress
     requires { ⌜ Room (length (now buffer)) ⌝ }
     requires { ⌜ got .have ≤ length (now buffer) ⌝ }
     requires { ⌜ Placed (p .place) (p .tally) ⌝ }
-    ensures { λ r. ⌜ r ≡ afterRead (now (buffer .entry)) got p ⌝ }
+    ensures { λ r. ⌜ AfterRead (now (buffer .entry)) got p r ⌝ }
 {
     if got.failed {
         return given_up(p);

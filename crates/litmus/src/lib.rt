@@ -22,7 +22,7 @@ use case::Case;
 pub use log::JudgedLog;
 pub use log::LogAnswer;
 pub use log::judge_log;
-pub use log::judged_log;
+pub use log::judged_part;
 pub use representatives::Choice;
 pub use tally::Tally;
 

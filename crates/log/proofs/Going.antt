@@ -6,9 +6,10 @@ use native.Mathlib.Nat.{le-refl}
 use mathlib.Core.Path.{_≡_, refl, sym, ap, subst, _∙_}
 use mathlib.Core.Bool.{Bool, true, false, cond, true≢false}
 use mathlib.Core.Logic.{⊎-elim}
-use mathlib.Core.List.{List}
+use mathlib.Core.List.{List, _++_, append-assoc}
 use lib.Dec.{eqb}
-use lib.ListN.{length, drop, length-drop}
+use lib.ListN.{length, take, drop, length-drop}
+use lib.Seq.{length-take-le, take-add, drop-at}
 use borrow.Author.Tests.{ne-eqb}
 use Rattle.finite.proofs.All.{all-drop}
 use Rattle.number.specs.Number.{Bytes}
@@ -18,6 +19,7 @@ use Rattle.model.specs.Rules.{PPCs, verdict}
 use Rattle.model.specs.Record.{read}
 use Rattle.laws.proofs.Exact.{refused-within}
 use Rattle.laws.proofs.ExactCase.{refused as refused-law}
+use Rattle.laws.proofs.ExtentCase.{accepted}
 use Rattle.reader.proofs.Bytes.{Octets, slice-bytes}
 use Rattle.tally.specs.declared.Tally.{Tally}
 use Rattle.tally.specs.Tally.{isVerdict, grown, mayGrow, adding}
@@ -26,7 +28,8 @@ use Rattle.log_model.proofs.Counts.{verdict-good}
 use Rattle.log_model.proofs.RunLaws.{Further, further as behind, run-stop, run-next}
 use Rattle.log.specs.declared.Judged.{Judged}
 use Rattle.log.specs.declared.Step.{Step}
-use Rattle.log.specs.Shown.{judgedOf, begun, stopAt, stepOf, Turn, nextTurn, runOf, numberOf, placeOf, stepShown}
+use Rattle.log.specs.declared.Turn.{Turn}
+use Rattle.log.specs.Shown.{judgedOf, begun, stopAt, stepOf, nextTurn, runOf, numberOf, placeOf, stepShown}
 
 -- a refusal of bytes is none of the numbers that judging gives, and not 6
 record NoVerdict (x : ℕ) : Type 0 where
@@ -52,11 +55,27 @@ pub record Going (s : List ℕ) (w : Run) (m : Turn) : Type 0 where
   goes : m .step .going ≡ true → runFrom (m .step .judged) s (m .tally) ≡ w
   pub stops : m .step .going ≡ false → (m .step ≡ stepShown w) × (m .tally ≡ w .tally)
 
+-- whatever follows the bytes before at, judging comes there with the tally t′, from t
+pub record Front (s : List ℕ) (t : Tally) (at : ℕ) (t′ : Tally) : Type 0 where
+  pub comes : (u : List ℕ) → run (take at s ++ u) t ≡ runFrom at (take at s ++ u) t′
+
+-- a record further
+front-next : (s : List ℕ) (t : Tally) (at : ℕ) (t′ : Tally) → at ≤ length s → (c : Case) (i : ℕ) → read (drop at s) ≡ next c i → mayGrow t′ (verdict c PPCs) ≡ true
+    → Front s t at t′ → Front s t (at + i) (grown t′ (verdict c PPCs))
+front-next s t at t′ inside c i e g F = record { comes = λ u. rw (split u) (F .comes (take i (drop at s) ++ u) ∙ run-next at (take at s ++ (take i (drop at s) ++ u)) t′ c i (there u) ∙ rw g) }
+  where
+    split : (u : List ℕ) → take (at + i) s ++ u ≡ take at s ++ (take i (drop at s) ++ u)
+    split u = ap (λ (z : List ℕ). z ++ u) (take-add at i s) ∙ append-assoc (take at s) (take i (drop at s)) u
+
+    there : (u : List ℕ) → read (drop at (take at s ++ (take i (drop at s) ++ u))) ≡ next c i
+    there u = ap read (drop-at (take at s) (take i (drop at s) ++ u) at (length-take-le at s inside)) ∙ accepted (drop at s) c i e .front u
+
 -- from the place at with the tally t it has come to m, further on where it still goes
 record Onward (s : List ℕ) (at : ℕ) (t : Tally) (m : Turn) : Type 0 where
   on : Going s (runFrom at s t) m
   from : at ≤ m .step .judged
   further : m .step .going ≡ true → at < m .step .judged
+  front : m .step .going ≡ true → (t₀ : Tally) → Front s t₀ at t → Front s t₀ (m .step .judged) (m .tally)
 
 module _ (s : List ℕ) (b : Octets s) where
   bytes : (at : ℕ) → Bytes (drop at s)
@@ -85,6 +104,7 @@ module _ (s : List ℕ) (b : Octets s) where
         on = record { inside = inside; goes = λ z. absurd (true≢false (sym z)); stops = λ _. (sym (ap stepShown e), sym (ap (λ (w : Run). w .tally) e)) };
         from = le-refl (f .judged);
         further = λ z. absurd (true≢false (sym z));
+        front = λ z. absurd (true≢false (sym z));
       }
 
       -- what is read is added as `adding` says, and the step behind it goes on as judging does
@@ -107,6 +127,7 @@ module _ (s : List ℕ) (b : Octets s) where
                 on = record { inside = F .inside; goes = λ _. sym (run-next (f .judged) s t c i q ∙ rw g); stops = λ z. absurd (true≢false z) };
                 from = omega arith;
                 further = λ _. omega (arith, F .some);
+                front = λ _ t₀ h. front-next s t₀ (f .judged) t inside c i q g h;
               })
               one false g = rw (q, verdict-good c PPCs, g, some) (halted full (run-next (f .judged) s t c i q ∙ rw g))
 
@@ -136,6 +157,9 @@ module _ (s : List ℕ) (b : Octets s) (w : Run) (m : Turn) (G : Going s w m) (g
 
   pub onward : Going s w n
   onward = subst (λ (v : Run). Going s v n) (G .goes g) (O .on)
+
+  pub front-on : (t₀ : Tally) → Front s t₀ (m .step .judged) (m .tally) → n .step .going ≡ true → Front s t₀ (n .step .judged) (n .tally)
+  front-on t₀ h z = O .front z t₀ h
 
   pub less : left s (n .step) < left s (m .step)
   less = nearer s (m .step) (n .step) g (O .on .inside) (O .from) (O .further)

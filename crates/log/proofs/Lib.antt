@@ -1,3 +1,4 @@
 pub mod Judging
 pub mod Going
 pub mod Answering
+pub mod Parting

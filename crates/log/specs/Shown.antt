@@ -1,19 +1,23 @@
 -- What the structs of the code mean, and how the model's answers are shown in them.
 -- Assumes nothing.
-use Prim.Native.Nat.{ℕ, _+_, _^_, _%_}
-use mathlib.Core.Bool.{true, false, cond}
+use Prim.Native.Nat.{ℕ, _+_, _-_, _^_, _%_, _≤_}
+use mathlib.Core.Path.{_≡_}
+use mathlib.Core.Bool.{Bool, true, false, cond}
 use mathlib.Core.List.{List}
 use lib.Dec.{eqb}
-use lib.ListN.{drop}
+use lib.ListN.{length, take, drop}
 use Rattle.number.specs.Reader.{Out, stop, next}
+use Rattle.model.specs.Limits.{mostEdition}
+use Rattle.model.specs.Bound.{mostBytes}
 use Rattle.model.specs.Case.{Case}
 use Rattle.model.specs.Rules.{PPCs, verdict}
 use Rattle.model.specs.Record.{read}
 use Rattle.tally.specs.declared.Tally.{Tally}
-use Rattle.tally.specs.Tally.{adding}
-use Rattle.log_model.specs.Pieces.{Stop, refused, full, Run, Answer}
+use Rattle.tally.specs.Tally.{zeros, adding}
+use Rattle.log_model.specs.Pieces.{Stop, refused, full, Run, Answer, answer, judgeLog}
 use Rattle.log.specs.declared.Judged.{Judged}
 use Rattle.log.specs.declared.Step.{Step}
+use Rattle.log.specs.declared.Turn.{Turn}
 use Rattle.log.specs.declared.LogAnswer.{LogAnswer}
 use Rattle.log.specs.declared.JudgedLog.{JudgedLog}
 
@@ -33,11 +37,6 @@ unfoldable pub stepOf : (at : ℕ) → Judged → (added : ℕ) → Step
 stepOf at j added =
     cond (eqb (j .length) 0) (stopAt at (j .number) (at + j .place))
     (cond (eqb added 0) (record { going = true; judged = at + j .length; number = 0; place = 0 }) (stopAt at 6 0))
-
--- a step, and the tally there
-pub record Turn : Type 0 where
-  pub step : Step
-  pub tally : Tally
 
 -- the record behind a step is judged, and added
 unfoldable pub nextTurn : List ℕ → Step → Tally → Turn
@@ -74,3 +73,24 @@ answerShown a = record { number = a .ending .number; ended = a .ended; place = a
 
 abbrev pub judgedShown : Answer → JudgedLog
 judgedShown a = record { answer = answerShown a; tally = a .tally }
+
+-- whether the next record of s is judged: of the last bytes of a log all are. Where it is left for later, no more bytes are left than a
+-- record may have
+pub record GoesOn (s : List ℕ) (last : Bool) (f : Step) (y : Bool) : Type 0 where
+  pub going : y ≡ true → f .going ≡ true
+  pub whole : y ≡ false → last ≡ true → f .going ≡ false
+  pub few : y ≡ false → f .going ≡ true → length s - f .judged ≤ mostBytes mostEdition
+
+-- what is answered where judging has come to a step, and goes on with a later call, or has stopped
+abbrev pub answerAt : (from : ℕ) (last : Bool) (size : ℕ) → Step → LogAnswer
+answerAt from last size f =
+    cond (f .going) (record { number = 0; ended = false; place = 0; length = f .judged }) (answerShown (answer from last size (runOf f zeros)))
+
+-- what is answered of the bytes s of a log is what `judgeLog` gives for their front up to some place; the last bytes of a log are judged
+-- whole, and else no more are left than a record may have
+pub record PartJudged (from : ℕ) (last : Bool) (s : List ℕ) (t : Tally) (r : JudgedLog) : Type 0 where
+  pub upto : ℕ
+  pub within : upto ≤ length s
+  pub whole : last ≡ true → upto ≡ length s
+  pub same : r ≡ judgedShown (judgeLog from last (take upto s) t)
+  pub few : r .answer .ended ≡ false → length s - r .answer .length ≤ mostBytes mostEdition

@@ -3,10 +3,13 @@ ghost use mathlib.Core.Path.{_≡_};
 ghost use mathlib.Core.Bool.{true};
 ghost use Prim.Native.Nat.{_+_, _^_, _≤_, _<_};
 ghost use lib.ListN.{length, drop};
+ghost use Rattle.model.specs.Limits.{mostEdition};
+ghost use Rattle.model.specs.Bound.{mostBytes};
 ghost use Rattle.model.specs.Record.{read};
 ghost use Rattle.tally.specs.Tally.{zeros};
 ghost use Rattle.log_model.specs.Pieces.{answer, run, judgeLog};
-ghost use Rattle.log.specs.Shown.{judgedOf, begun, stopAt, stepOf, nextTurn, runOf, stepShown, answerShown, judgedShown};
+ghost use Rattle.log.specs.Shown.{judgedOf, begun, stopAt, stepOf, nextTurn, runOf, stepShown, answerShown, GoesOn, answerAt, PartJudged};
+use case::Case;
 use tally::Tally;
 
 // Why judging stops: the bytes end, or a count is full.
@@ -193,14 +196,103 @@ pub struct JudgedLog {
     pub tally: Tally,
 }
 
-// The same with the tally by value: it is kept in a local, which is lent.
-pub fn judged_log(bytes: &[u8], from: u64, last: bool, tally: Tally) -> JudgedLog
-    ensures { λ r. ⌜ r ≡ judgedShown (judgeLog from last (now (bytes .entry)) tally) ⌝ }
+// A step, and the tally there.
+pub struct Turn {
+    pub step: Step,
+    pub tally: Tally,
+}
+
+// Judges the record that comes next, the tally by value.
+fn judged_next(bytes: &[u8], from: Step, tally: Tally) -> Turn
+    requires { ⌜ from .judged ≤ length (now bytes) ⌝ }
+    ensures { λ r. ⌜ r ≡ nextTurn (now (bytes .entry)) from tally ⌝ }
 {
+    let judged = judge_record(bytes, from.judged);
+    let addition = tally::added(tally, judged.number);
+    let step = stepped(from.judged, judged, addition.number);
+    let tally = addition.tally;
+    Turn { step, tally }
+}
+
+// The bytes that the orders have of a case of so many threads and events, where each is a total order of them; 0 for too many.
+fn orders_size(threads: usize, events: usize) -> usize
+    ensures { λ r. ⌜ r ≤ mostBytes mostEdition ⌝ }
+{
+    if Case::MOST_THREADS < threads {
+        return 0;
+    }
+    if Case::MOST_EVENTS < events {
+        return 0;
+    }
+    if events == 0 {
+        return 0;
+    }
+    threads * events * (events - 1)
+}
+
+// About how many bytes the record has that begins at a place, by its first ones; 0 where they don't tell. A guess, on which no answer
+// depends: a record that is not complete is read in vain.
+fn likely_size(bytes: &[u8], from: usize) -> usize
+    requires { ⌜ from ≤ length (now bytes) ⌝ }
+    ensures { λ r. ⌜ r ≤ mostBytes mostEdition ⌝ }
+{
+    let left = bytes.len() - from;
+    if left < 4 {
+        return 0;
+    }
+    let addresses = bytes[from + 2] as usize;
+    if left - 4 < addresses {
+        return 0;
+    }
+    orders_size(
+        bytes[from + 1] as usize,
+        bytes[from + 3 + addresses] as usize,
+    )
+}
+
+// Whether the next record is judged: there may be one, and in the middle of a log there are as many bytes as it seems to have.
+fn goes_on(bytes: &[u8], last: bool, step: Step) -> bool
+    requires { ⌜ step .judged ≤ length (now bytes) ⌝ }
+    ensures { λ r. ⌜ GoesOn (now (bytes .entry)) last step r ⌝ }
+{
+    if step.going {
+        if last {
+            return true;
+        }
+        return likely_size(bytes, step.judged) <= bytes.len() - step.judged;
+    }
+    false
+}
+
+// What is answered where judging has come to a step.
+fn answered_at(step: Step, size: usize, from: u64, last: bool) -> LogAnswer
+    ensures { λ r. ⌜ r ≡ answerAt from last size step ⌝ }
+{
+    if step.going {
+        return LogAnswer {
+            number: 0,
+            ended: false,
+            place: 0,
+            length: step.judged,
+        };
+    }
+    answered(step, size, from, last)
+}
+
+// As `judge_log`, with the tally by value. Where further bytes are to come, the last records may be left for later, once what is left is
+// no more than one may have: a record that seems to be incomplete is not read.
+pub fn judged_part(bytes: &[u8], from: u64, last: bool, tally: Tally) -> JudgedLog
+    ensures { λ r. ⌜ PartJudged from last (now (bytes .entry)) tally r ⌝ }
+{
+    let mut step = first_step();
     let mut kept = tally;
-    let answer = judge_log(bytes, from, last, &mut kept);
+    while goes_on(bytes, last, step) {
+        let turn = judged_next(bytes, step, kept);
+        step = turn.step;
+        kept = turn.tally;
+    }
     JudgedLog {
-        answer,
+        answer: answered_at(step, bytes.len(), from, last),
         tally: kept,
     }
 }

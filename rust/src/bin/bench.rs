@@ -38,11 +38,12 @@ fn main() {
     println!("each time is the best of {ROUNDS} rounds, which take turns\n");
     for count in SIZES {
         for edition in EDITIONS {
-            records(edition, count);
-            log(edition, count);
+            let records = records(edition, count);
+            log("the same", &records);
         }
         orders(count);
     }
+    log("some of each of these, in any order:", &mixed());
     for edition in EDITIONS {
         let cases = accepted_cases(edition, EVENTS);
         assert!(cases.iter().all(every_thread_has_events));
@@ -120,7 +121,7 @@ fn record(case: &Case) -> Vec<u8> {
 
 /// From bytes, beside the ordinary implementation. Records of edition 2 have lwsyncs and
 /// dependencies.
-fn records(edition: u32, count: usize) {
+fn records(edition: u32, count: usize) -> Vec<Vec<u8>> {
     let cases = accepted_cases(edition, count);
     let records: Vec<Vec<u8>> = cases.iter().map(record).collect();
     let bytes: usize = records.iter().map(Vec::len).sum();
@@ -148,14 +149,27 @@ fn records(edition: u32, count: usize) {
     );
     let heads = ["bytes to PPCs        ours", "verdict          ordinary"];
     judging.print(heads, |time| each(time, INPUTS, "a record"), 2);
+    records
+}
+
+/// As many records of each edition and size, in any order.
+fn mixed() -> Vec<Vec<u8>> {
+    let kinds = EDITIONS.len() * SIZES.len();
+    let mut cases = Vec::new();
+    for edition in EDITIONS {
+        for count in SIZES {
+            cases.extend_from_slice(&accepted_cases(edition, count)[..INPUTS / kinds]);
+        }
+    }
+    Random::new(43).shuffle(&mut cases);
+    cases.iter().map(record).collect()
 }
 
 /// Records back to back as a log, in one piece and in many, beside judging each where it lies.
-fn log(edition: u32, count: usize) {
-    let records: Vec<Vec<u8>> = accepted_cases(edition, count).iter().map(record).collect();
+fn log(which: &str, records: &[Vec<u8>]) {
     let log = [records.concat()];
     let bytes = log[0].len();
-    println!("the same {INPUTS} records as a log, {bytes} bytes\n");
+    println!("{which} {INPUTS} records as a log, {bytes} bytes\n");
     for (size, head) in [
         (bytes, "a log in one piece   ours"),
         (PIECE, "in 64 KiB pieces     ours"),

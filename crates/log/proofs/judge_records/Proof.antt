@@ -41,8 +41,9 @@ use denote.Triple.Walked.{says, Stays, stay-dropped, stay-ref, walkOf, AllGo, go
 use denote.Exit.{yes}
 use Rattle.tally.specs.declared.Tally.{Tally}
 use Rattle.log_model.specs.Pieces.{run as run-of}
-use Rattle.log.specs.Shown.{begun, Turn, nextTurn}
+use Rattle.log.specs.Shown.{begun, nextTurn}
 use Rattle.log.specs.declared.Step.{Step}
+use Rattle.log.specs.declared.Turn.{Turn}
 use Rattle.walk.proofs.Calls.{Of, Told, plainly, agreed, asked, calls-told, calls-told-last, two-tokens}
 use Rattle.walk.proofs.Locals.{var, made, frees-cell, frees-room}
 use Rattle.walk.proofs.Loops.{by-case, Under, under-wf}
