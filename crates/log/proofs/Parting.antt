@@ -1,10 +1,10 @@
 -- Judging the records of some bytes, as far as they seem to be complete.
 -- Assumes nothing.
-use Prim.Native.Nat.{ℕ, _+_, _-_, _*_, _^_, _≤_, _<_}
+use Prim.Native.Nat.{ℕ, _+_, _-_, _*_, _≤_, _<_}
 use native.Mathlib.Omega.{arith}
-use native.Mathlib.Nat.{add-zero, le-refl, le-trans, lt-of-le-of-lt, lt-of-lt-of-le, mul-le-mul}
+use native.Mathlib.Nat.{le-refl, le-trans, lt-of-le-of-lt, lt-of-lt-of-le, mul-le-mul}
 use mathlib.Core.Path.{_≡_, refl, sym, ap, _∙_}
-use mathlib.Core.Bool.{Bool, true, false, not, true≢false}
+use mathlib.Core.Bool.{Bool, true, false, true≢false}
 use mathlib.Core.List.{List, [], append-nil}
 use lib.Dec.{leb, lit<, lit≤}
 use lib.ListN.{length, take, drop, length-drop}
@@ -18,21 +18,19 @@ use Rattle.model.specs.Record.{read}
 use Rattle.laws.proofs.Bound.{most-is}
 use Rattle.reader.proofs.Bytes.{Octets}
 use Rattle.tally.specs.declared.Tally.{Tally}
-use Rattle.tally.specs.declared.Addition.{Addition}
-use Rattle.tally.specs.Tally.{zeros, adding}
+use Rattle.tally.specs.Tally.{zeros}
 use Rattle.number.specs.Reader.{stop}
 use Rattle.log_model.specs.Log.{noFault}
-use Rattle.log_model.specs.Pieces.{refused, Run, run, runFrom, answer, judgeLog}
+use Rattle.log_model.specs.Pieces.{refused, run, runFrom, answer, judgeLog}
 use Rattle.log_model.proofs.RunLaws.{run-stop, read-end}
 use Rattle.log_model.proofs.Cut.{ended-last}
 use Rattle.log_model.proofs.Kept.{call-small}
-use Rattle.log.specs.declared.Judged.{Judged}
 use Rattle.log.specs.declared.Step.{Step}
 use Rattle.log.specs.declared.Turn.{Turn}
 use Rattle.log.specs.declared.LogAnswer.{LogAnswer}
 use Rattle.log.specs.declared.JudgedLog.{JudgedLog}
-use Rattle.log.specs.Shown.{judgedOf, begun, stepOf, nextTurn, runOf, stepShown, answerShown, judgedShown, GoesOn, answerAt, PartJudged}
-use Rattle.log.proofs.Going.{Going, Front, first, fits, onward, front-on, less, left}
+use Rattle.log.specs.Shown.{begun, nextTurn, runOf, answerShown, judgedShown, GoesOn, answerAt, PartJudged}
+use Rattle.log.proofs.Going.{Going, Front, first, onward, front-on, less, left}
 use Rattle.log.proofs.Answering.{answer-is}
 
 -- ---- the size that a record seems to have
@@ -68,16 +66,6 @@ module _ (s : List ℕ) (last : Bool) (f : Step) where
 
   pub goes-not : f .going ≡ false → GoesOn s last f false
   goes-not g = record { going = λ e. absurd (true≢false (sym e)); whole = λ _ _. g; few = λ _ z. absurd (true≢false (sym z ∙ g)) }
-
--- ---- the record that comes next
-
-module _ (s : List ℕ) (f : Step) (j : Judged) (e : j ≡ judgedOf (read (drop (f .judged) s))) where
-  pub next-fits : Octets s → f .judged ≤ length s → length s < 2 ^ 64 → (f .judged + j .place < 2 ^ 64) × (f .judged + j .length < 2 ^ 64)
-  next-fits b inside l = rw e (fits s b f inside l)
-
-  pub turn-is : (t : Tally) (a : Addition) → a ≡ adding t (j .number) → (g : Step) → g ≡ stepOf (f .judged) j (a .number) → _≡_ {A = Turn} (record { step = g; tally = a .tally }) (nextTurn s f t)
-  unfolding nextTurn
-  turn-is t a d g h = rw (h, d, e)
 
 -- ---- the loop
 

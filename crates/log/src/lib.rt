@@ -202,16 +202,14 @@ pub struct Turn {
     pub tally: Tally,
 }
 
-// Judges the record that comes next, the tally by value.
+// As `judge_next`, with the tally by value: it is kept in a local, which is lent.
 fn judged_next(bytes: &[u8], from: Step, tally: Tally) -> Turn
     requires { ⌜ from .judged ≤ length (now bytes) ⌝ }
     ensures { λ r. ⌜ r ≡ nextTurn (now (bytes .entry)) from tally ⌝ }
 {
-    let judged = judge_record(bytes, from.judged);
-    let addition = tally::added(tally, judged.number);
-    let step = stepped(from.judged, judged, addition.number);
-    let tally = addition.tally;
-    Turn { step, tally }
+    let mut kept = tally;
+    let step = judge_next(bytes, from, &mut kept);
+    Turn { step, tally: kept }
 }
 
 // The bytes that the orders have of a case of so many threads and events, where each is a total order of them; 0 for too many.
