@@ -163,7 +163,7 @@ fn each_refusal() {
 }
 
 /// A refused record is told while the input stays open, whether it comes with the records before
-/// it or later.
+/// it or later, where none of them seems to be incomplete.
 #[test]
 fn refusals_are_told_at_once() {
     let records = short_records(&mut Random::new(117), 3, 200).concat();

@@ -178,13 +178,13 @@ module _ (b : List ℕ) (p : Progress) (P : Ready b p) (b′ : List ℕ) (got : 
 
     after-following : (rest : List ℕ) → completed (fedOf b′ (after (p .place) have answer)) rest ≡ completed (following (p .place) taken answer) (later ++ rest)
     unfolding fedOf after
-    after-following rest = go (answer .ended) refl
+    after-following rest = go (answer .ended)
       where
-        go : (y : Bool) → answer .ended ≡ y
+        go : (y : Bool)
             → completed (cond y (over (record { tally = answer .tally; ending = answer .ending })) (going (kept b′ (answer .judged) have) (p .place + answer .judged) (answer .tally))) rest
             ≡ completed (cond y (over (record { tally = answer .tally; ending = answer .ending })) (going (drop (answer .judged) taken) (p .place + answer .judged) (answer .tally))) (later ++ rest)
-        go true e = refl
-        go false e = ap (λ (s : List ℕ). logTallied (answer .tally) (logFrom (p .place + answer .judged) s)) (ap (λ (s : List ℕ). s ++ rest) left ∙ append-assoc (drop (answer .judged) taken) later rest)
+        go true = refl
+        go false = ap (λ (s : List ℕ). logTallied (answer .tally) (logFrom (p .place + answer .judged) s)) (ap (λ (s : List ℕ). s ++ rest) left ∙ append-assoc (drop (answer .judged) taken) later rest)
 
     joined-again : (rest : List ℕ) → whole (taken ++ (later ++ rest)) ≡ whole (take have b′ ++ rest)
     joined-again rest = ap whole (sym (append-assoc taken later rest) ∙ ap (λ (s : List ℕ). s ++ rest) (sym parts))
@@ -222,8 +222,8 @@ module _ (b : List ℕ) (p : Progress) (P : Ready b p) (b′ : List ℕ) (got : 
 
   turn : p .failed ≡ false → (r : Progress) → AfterRead b′ got p r → Onward b p b′ r
   turn g r (unreadable f e) = rw e turn-failed
-  turn g r (judging d H) = turn-judged r H
-  turn g r (keeping n e) = rw e (turn-held n g)
+  turn g r (judging f d H) = turn-judged r H
+  turn g r (keeping f n e) = rw e (turn-held n g)
 
 -- ---- the log
 
@@ -357,12 +357,12 @@ module _ (ended : Bool) (have due : ℕ) where
   pub due-late : (most : ℕ) → most ≡ mostBytes mostEdition → ended ≡ false → have < due → ltb most have ≡ isDue ended have due
   due-late most e n l = rw (n, lt-leb due have l, e)
 
-module _ (b : List ℕ) (got : Got) (p : Progress) (y : Bool) (d : y ≡ isDue (got .ended) (got .have) (p .due)) (r : Progress) where
+module _ (b : List ℕ) (got : Got) (p : Progress) (f : got .failed ≡ false) (y : Bool) (d : y ≡ isDue (got .ended) (got .have) (p .due)) (r : Progress) where
   pub read-due : JudgedHeld b (got .have) (got .ended) p r → y ≡ true → AfterRead b got p r
-  read-due H h = judging (sym d ∙ h) H
+  read-due H h = judging f (sym d ∙ h) H
 
   pub read-held : r ≡ heldOn (got .have) p → y ≡ false → AfterRead b got p r
-  read-held e h = keeping (sym d ∙ h) e
+  read-held e h = keeping f (sym d ∙ h) e
 
 pub read-failed : (b : List ℕ) (got : Got) (p r : Progress) → r ≡ givenUp p → got .failed ≡ true → AfterRead b got p r
 read-failed b got p r e f = unreadable f e

@@ -67,8 +67,8 @@ pub record JudgedHeld (b : List ℕ) (have : ℕ) (last : Bool) (p r : Progress)
 -- what a read came to, which left the buffer b: the input can't be read, or the bytes are judged if they are due, or else kept
 pub data AfterRead (b : List ℕ) (got : Got) (p r : Progress) : Type 0 where
   unreadable : got .failed ≡ true → r ≡ givenUp p → AfterRead b got p r
-  judging : isDue (got .ended) (got .have) (p .due) ≡ true → JudgedHeld b (got .have) (got .ended) p r → AfterRead b got p r
-  keeping : isDue (got .ended) (got .have) (p .due) ≡ false → r ≡ heldOn (got .have) p → AfterRead b got p r
+  judging : got .failed ≡ false → isDue (got .ended) (got .have) (p .due) ≡ true → JudgedHeld b (got .have) (got .ended) p r → AfterRead b got p r
+  keeping : got .failed ≡ false → isDue (got .ended) (got .have) (p .due) ≡ false → r ≡ heldOn (got .have) p → AfterRead b got p r
 
 -- the log goes on: what is kept lies in the buffer and is no more than a record may have, and its place is at most what so many records
 -- take

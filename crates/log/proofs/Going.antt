@@ -52,6 +52,7 @@ no-verdict s b x p e = ⊎-elim (λ m. small x (m .least) (m .most)) (λ u. rw (
 -- from m on, judging comes to the run w: where it stops, the step and the tally are what shows that
 pub record Going (s : List ℕ) (w : Run) (m : Turn) : Type 0 where
   pub inside : m .step .judged ≤ length s
+  pub ends : m .step .going ≡ true → m .step .number ≡ 1
   goes : m .step .going ≡ true → runFrom (m .step .judged) s (m .tally) ≡ w
   pub stops : m .step .going ≡ false → (m .step ≡ stepShown w) × (m .tally ≡ w .tally)
 
@@ -101,7 +102,7 @@ module _ (s : List ℕ) (b : Octets s) where
       halted : (why : Stop) → runFrom (f .judged) s t ≡ record { judged = f .judged; tally = t; why = why }
           → Onward s (f .judged) t (record { step = stopAt (f .judged) (numberOf why) (placeOf why); tally = t })
       halted why e = record {
-        on = record { inside = inside; goes = λ z. absurd (true≢false (sym z)); stops = λ _. (sym (ap stepShown e), sym (ap (λ (w : Run). w .tally) e)) };
+        on = record { inside = inside; ends = λ z. absurd (true≢false (sym z)); goes = λ z. absurd (true≢false (sym z)); stops = λ _. (sym (ap stepShown e), sym (ap (λ (w : Run). w .tally) e)) };
         from = le-refl (f .judged);
         further = λ z. absurd (true≢false (sym z));
         front = λ z. absurd (true≢false (sym z));
@@ -124,7 +125,7 @@ module _ (s : List ℕ) (b : Octets s) where
 
               one : (y : Bool) → mayGrow t (verdict c PPCs) ≡ y → Onward s (f .judged) t (nextTurn s f t)
               one true g = rw (q, verdict-good c PPCs, g, some) (record {
-                on = record { inside = F .inside; goes = λ _. sym (run-next (f .judged) s t c i q ∙ rw g); stops = λ z. absurd (true≢false z) };
+                on = record { inside = F .inside; ends = λ _. refl; goes = λ _. sym (run-next (f .judged) s t c i q ∙ rw g); stops = λ z. absurd (true≢false z) };
                 from = omega arith;
                 further = λ _. omega (arith, F .some);
                 front = λ _ t₀ h. front-next s t₀ (f .judged) t inside c i q g h;
@@ -146,7 +147,7 @@ nearer s f g e inside from further = rw e (go (g .going) refl)
     go false h = omega arith
 
 pub first : (s : List ℕ) (t : Tally) → Going s (run s t) (record { step = begun; tally = t })
-first s t = record { inside = omega arith; goes = λ _. refl; stops = λ z. absurd (true≢false z) }
+first s t = record { inside = omega arith; ends = λ _. refl; goes = λ _. refl; stops = λ z. absurd (true≢false z) }
 
 module _ (s : List ℕ) (b : Octets s) (w : Run) (m : Turn) (G : Going s w m) (g : m .step .going ≡ true) where
   abbrev n : Turn

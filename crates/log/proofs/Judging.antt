@@ -49,7 +49,7 @@ module _ (at : ℕ) (j : Judged) (sum : ℕ) where
   unfolding stepOf
   step-refused r e z = e ∙ rw z
 
-  pub step-on : (j .length ≡ 0 → ⊥) → sum ≡ 0 → _≡_ {A = Step} (record { going = true; judged = at + j .length; number = 0; place = 0 }) (stepOf at j sum)
+  pub step-on : (j .length ≡ 0 → ⊥) → sum ≡ 0 → _≡_ {A = Step} (record { going = true; judged = at + j .length; number = 1; place = 0 }) (stepOf at j sum)
   unfolding stepOf
   step-on n z = rw (ne-eqb (j .length) 0 n, z)
 

@@ -29,9 +29,9 @@ use Rattle.log.specs.declared.Step.{Step}
 use Rattle.log.specs.declared.Turn.{Turn}
 use Rattle.log.specs.declared.LogAnswer.{LogAnswer}
 use Rattle.log.specs.declared.JudgedLog.{JudgedLog}
-use Rattle.log.specs.Shown.{begun, nextTurn, runOf, answerShown, judgedShown, GoesOn, answerAt, PartJudged}
+use Rattle.log.specs.Shown.{begun, nextTurn, runOf, answerShown, judgedShown, GoesOn, PartJudged}
 use Rattle.log.proofs.Going.{Going, Front, first, onward, front-on, less, left}
-use Rattle.log.proofs.Answering.{answer-is}
+use Rattle.log.proofs.Answering.{as-waiting, answer-is}
 
 -- ---- the size that a record seems to have
 
@@ -93,13 +93,6 @@ module _ (s : List ℕ) (b : Octets s) (t : Tally) (f : Step) (t′ : Tally) (P 
 
 -- ---- where it leaves off
 
-module _ (from : ℕ) (last : Bool) (size : ℕ) (f : Step) where
-  pub at-going : f .going ≡ true → _≡_ {A = LogAnswer} (record { number = 0; ended = false; place = 0; length = f .judged }) (answerAt from last size f)
-  at-going g = rw g
-
-  pub at-stop : f .going ≡ false → (a : LogAnswer) → a ≡ answerShown (answer from last size (runOf f zeros)) → a ≡ answerAt from last size f
-  at-stop g a e = e ∙ rw g
-
 -- the bytes up to where it leaves off give the same
 front-answer : (from : ℕ) (s : List ℕ) (t : Tally) (at : ℕ) (t′ : Tally) → at ≤ length s → Front s t at t′
     → judgeLog from false (take at s) t ≡ record { ended = false; ending = noFault; judged = at; tally = t′ }
@@ -112,7 +105,7 @@ front-answer from s t at t′ inside F = ap (answer from false (length (take at 
     run-is : run (take at s) t ≡ record { judged = at; tally = t′; why = refused 1 (at + 0) }
     run-is = ap (λ (u : List ℕ). run u t) (sym (append-nil (take at s))) ∙ F .comes [] ∙ ap (λ (u : List ℕ). runFrom at u t′) (append-nil (take at s)) ∙ run-stop at (take at s) t′ 1 0 none
 
-module _ (from : ℕ) (last : Bool) (s : List ℕ) (b : Octets s) (t : Tally) (f : Step) (t′ : Tally) (P : Parted s t f t′) (y : Bool) (o : GoesOn s last f y) (h : y ≡ false) (a : LogAnswer) (e : a ≡ answerAt from last (length s) f) where
+module _ (from : ℕ) (last : Bool) (s : List ℕ) (b : Octets s) (t : Tally) (f : Step) (t′ : Tally) (P : Parted s t f t′) (y : Bool) (o : GoesOn s last f y) (h : y ≡ false) (a : LogAnswer) (e : a ≡ answerShown (answer from last (length s) (runOf f zeros))) where
   abbrev result : JudgedLog
   result = record { answer = a; tally = t′ }
 
@@ -120,14 +113,21 @@ module _ (from : ℕ) (last : Bool) (s : List ℕ) (b : Octets s) (t : Tally) (f
   left-off g = record {
     upto = f .judged;
     within = P .on .inside;
-    whole = λ l. absurd (true≢false (sym g ∙ o .whole h l));
-    same = same last refl;
-    few = λ _. rw (e, g) (o .few h g);
+    whole = λ l. absurd (true≢false (sym l ∙ middle));
+    same = rw (waits, middle, front-answer from s t (f .judged) t′ (P .on .inside) (P .front g));
+    few = λ _. rw waits (o .few h g);
   }
     where
-      same : (y : Bool) → last ≡ y → result ≡ judgedShown (judgeLog from last (take (f .judged) s) t)
-      same true l = absurd (true≢false (sym g ∙ o .whole h l))
-      same false l = rw (e, g, l, front-answer from s t (f .judged) t′ (P .on .inside) (P .front g))
+      -- of a log's last bytes none is left
+      middle : last ≡ false
+      middle = go last refl
+        where
+          go : (y : Bool) → last ≡ y → last ≡ false
+          go true l = absurd (true≢false (sym g ∙ o .whole h l))
+          go false l = l
+
+      waits : a ≡ record { number = 0; ended = false; place = 0; length = f .judged }
+      waits = e ∙ sym (as-waiting from (length s) f last middle (P .on .ends g))
 
   tally-is : judgeLog from last s t .tally ≡ run s t .tally
   unfolding judgeLog
@@ -146,7 +146,7 @@ module _ (from : ℕ) (last : Bool) (s : List ℕ) (b : Octets s) (t : Tally) (f
       same =
           let S = P .on .stops g in
           let shown : a ≡ answerShown (judgeLog from last s t) =
-          e ∙ sym (at-stop from last (length s) f g _ refl) ∙ ap (λ (r : Step). answerShown (answer from last (length s) (runOf r zeros))) (S .0)
+          e ∙ ap (λ (r : Step). answerShown (answer from last (length s) (runOf r zeros))) (S .0)
           ∙ answer-is from last s b t in
           rw (shown, S .1 ∙ sym tally-is)
 

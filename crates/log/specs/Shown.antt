@@ -13,8 +13,8 @@ use Rattle.model.specs.Case.{Case}
 use Rattle.model.specs.Rules.{PPCs, verdict}
 use Rattle.model.specs.Record.{read}
 use Rattle.tally.specs.declared.Tally.{Tally}
-use Rattle.tally.specs.Tally.{zeros, adding}
-use Rattle.log_model.specs.Pieces.{Stop, refused, full, Run, Answer, answer, judgeLog}
+use Rattle.tally.specs.Tally.{adding}
+use Rattle.log_model.specs.Pieces.{Stop, refused, full, Run, Answer, judgeLog}
 use Rattle.log.specs.declared.Judged.{Judged}
 use Rattle.log.specs.declared.Step.{Step}
 use Rattle.log.specs.declared.Turn.{Turn}
@@ -26,8 +26,9 @@ unfoldable pub judgedOf : Out Case → Judged
 judgedOf (stop x p) = record { number = x; place = p; length = 0 }
 judgedOf (next c i) = record { number = verdict c PPCs; place = 0; length = i }
 
+-- a step that goes on says 1, as if the bytes ended there
 abbrev pub begun : Step
-begun = record { going = true; judged = 0; number = 0; place = 0 }
+begun = record { going = true; judged = 0; number = 1; place = 0 }
 
 abbrev pub stopAt : (at number place : ℕ) → Step
 stopAt at number place = record { going = false; judged = at; number = number; place = place }
@@ -36,7 +37,7 @@ stopAt at number place = record { going = false; judged = at; number = number; p
 unfoldable pub stepOf : (at : ℕ) → Judged → (added : ℕ) → Step
 stepOf at j added =
     cond (eqb (j .length) 0) (stopAt at (j .number) (at + j .place))
-    (cond (eqb added 0) (record { going = true; judged = at + j .length; number = 0; place = 0 }) (stopAt at 6 0))
+    (cond (eqb added 0) (record { going = true; judged = at + j .length; number = 1; place = 0 }) (stopAt at 6 0))
 
 -- the record behind a step is judged, and added
 unfoldable pub nextTurn : List ℕ → Step → Tally → Turn
@@ -80,11 +81,6 @@ pub record GoesOn (s : List ℕ) (last : Bool) (f : Step) (y : Bool) : Type 0 wh
   pub going : y ≡ true → f .going ≡ true
   pub whole : y ≡ false → last ≡ true → f .going ≡ false
   pub few : y ≡ false → f .going ≡ true → length s - f .judged ≤ mostBytes mostEdition
-
--- what is answered where judging has come to a step, and goes on with a later call, or has stopped
-abbrev pub answerAt : (from : ℕ) (last : Bool) (size : ℕ) → Step → LogAnswer
-answerAt from last size f =
-    cond (f .going) (record { number = 0; ended = false; place = 0; length = f .judged }) (answerShown (answer from last size (runOf f zeros)))
 
 -- what is answered of the bytes s of a log is what `judgeLog` gives for their front up to some place; the last bytes of a log are judged
 -- whole, and else no more are left than a record may have

@@ -8,7 +8,7 @@ ghost use Rattle.model.specs.Bound.{mostBytes};
 ghost use Rattle.model.specs.Record.{read};
 ghost use Rattle.tally.specs.Tally.{zeros};
 ghost use Rattle.log_model.specs.Pieces.{answer, run, judgeLog};
-ghost use Rattle.log.specs.Shown.{judgedOf, begun, stopAt, stepOf, nextTurn, runOf, stepShown, answerShown, GoesOn, answerAt, PartJudged};
+ghost use Rattle.log.specs.Shown.{judgedOf, begun, stopAt, stepOf, nextTurn, runOf, stepShown, answerShown, GoesOn, PartJudged};
 use case::Case;
 use tally::Tally;
 
@@ -53,8 +53,8 @@ fn judge_record(bytes: &[u8], from: usize) -> Judged
     judge_first(&bytes[from..])
 }
 
-// How far the records of some bytes are judged: the bytes that they took, and whether there may be another behind them; if not, the
-// refusal of what lies there and its place, or 6 and 0 where a count is full.
+// How far the records of some bytes are judged: the bytes that they took, and whether there may be another behind them. If not, the
+// refusal of what lies there and its place, or 6 and 0 where a count is full; else 1, as if the bytes ended there.
 pub struct Step {
     pub going: bool,
     pub judged: usize,
@@ -69,7 +69,7 @@ fn first_step() -> Step
     Step {
         going: true,
         judged: 0,
-        number: 0,
+        number: ENDS,
         place: 0,
     }
 }
@@ -98,7 +98,7 @@ fn stepped(from: usize, judged: Judged, added: u8) -> Step
         return Step {
             going: true,
             judged: from + judged.length,
-            number: 0,
+            number: ENDS,
             place: 0,
         };
     }
@@ -262,21 +262,6 @@ fn goes_on(bytes: &[u8], last: bool, step: Step) -> bool
     false
 }
 
-// What is answered where judging has come to a step.
-fn answered_at(step: Step, size: usize, from: u64, last: bool) -> LogAnswer
-    ensures { λ r. ⌜ r ≡ answerAt from last size step ⌝ }
-{
-    if step.going {
-        return LogAnswer {
-            number: 0,
-            ended: false,
-            place: 0,
-            length: step.judged,
-        };
-    }
-    answered(step, size, from, last)
-}
-
 // As `judge_log`, with the tally by value. Where further bytes are to come, the last records may be left for later, once what is left is
 // no more than one may have: a record that seems to be incomplete is not read.
 pub fn judged_part(bytes: &[u8], from: u64, last: bool, tally: Tally) -> JudgedLog
@@ -290,7 +275,7 @@ pub fn judged_part(bytes: &[u8], from: u64, last: bool, tally: Tally) -> JudgedL
         kept = turn.tally;
     }
     JudgedLog {
-        answer: answered_at(step, bytes.len(), from, last),
+        answer: answered(step, bytes.len(), from, last),
         tally: kept,
     }
 }

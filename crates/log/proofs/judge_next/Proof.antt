@@ -41,7 +41,6 @@ use Rattle.model.specs.Record.{read}
 use Rattle.log.specs.Shown.{judgedOf, stepOf, nextTurn}
 use Rattle.log.specs.declared.Judged.{Judged}
 use Rattle.log.specs.declared.Step.{Step}
-use Rattle.log.specs.declared.Turn.{Turn}
 use Rattle.walk.proofs.Calls.{Of, Told, plainly, agreed, asked, value, Known, calls-told, one-token}
 use Rattle.walk.proofs.Locals.{var, made, made-uint, frees-cell}
 use Rattle.walk.proofs.Bytes.{octets}
