@@ -1,0 +1,121 @@
+-- The loop that looks for unfinished bytes, and each way through the functions that append to an area.
+-- Assumes nothing.
+use Prim.Native.Nat.{ℕ, _+_, _-_, _≤_, _<_}
+use native.Mathlib.Omega.{arith}
+use native.Mathlib.Numerals.{add-one}
+use mathlib.Core.Path.{_≡_, refl, sym, ap, _∙_}
+use mathlib.Core.Bool.{Bool, true, false}
+use mathlib.Core.List.{List, []}
+use lib.Dec.{leb}
+use lib.ListN.{length, getD, take, drop, drop-of-length-le}
+use lib.Seq.{drop-cons, length-take-le}
+use borrow.Author.Tests.{eq-eqb, ne-eqb, le-leb, lt-leb}
+use Rattle.finite.specs.Lists.{every}
+use Rattle.number.specs.Reader.{Out, stop, next}
+use Rattle.model.specs.Case.{Case}
+use Rattle.model.specs.Record.{read}
+use Rattle.model.specs.Answers.{refusal, done}
+use Rattle.answers.specs.declared.Answer.{Answer}
+use Rattle.answers.specs.Shown.{shown}
+use Rattle.laws.proofs.ExtentCase.{accepted, refusal-least}
+use Rattle.reader.specs.declared.Reading.{Reading}
+use Rattle.reader.specs.Answers.{readingOf}
+use Rattle.reader.proofs.Found.{missed}
+use Rattle.area_model.specs.Area.{unused, isUnused, found, appending, storeSome, appendAt, appendRead, append}
+use Rattle.area_model.proofs.Survival.{end-within}
+use Rattle.area.specs.declared.End.{End}
+use Rattle.area.specs.Shown.{endShown, Answered, Made}
+
+-- ---- the loop of `all_unused`
+
+module _ (s : List ℕ) (from i : ℕ) (same : every isUnused (drop i s) ≡ every isUnused (drop from s)) where
+  pub unused-fails : i < length s → (getD s i 0 ≡ unused → ⊥) → false ≡ every isUnused (drop from s)
+  unfolding every
+  unused-fails l n = sym (sym same ∙ rw (drop-cons s i 0 l, ne-eqb (getD s i 0) unused n))
+
+  pub unused-next : i < length s → getD s i 0 ≡ unused → every isUnused (drop (i + 1) s) ≡ every isUnused (drop from s)
+  unfolding every
+  unused-next l e = rw add-one (sym (rw (drop-cons s i 0 l, eq-eqb (getD s i 0) unused e)) ∙ same)
+
+  pub unused-ends : length s ≤ i → true ≡ every isUnused (drop from s)
+  unfolding every
+  unused-ends l = let none : drop i s ≡ [] = drop-of-length-le s l in sym (sym same ∙ rw none)
+
+-- ---- the ways through `append_at`
+
+module _ (area : List ℕ) (end : ℕ) (bytes : List ℕ) (size allowed : ℕ) (fits : size ≤ length bytes) (inside : end ≤ length area) where
+  long : length (take size bytes) ≡ size
+  long = length-take-le size bytes fits
+
+  room : size < length area - end → leb (end + 1 + length (take size bytes)) (length area) ≡ true
+  room l = rw long (le-leb (end + 1 + size) (length area) (omega arith))
+
+  pub no-room : (r : Answer) → r ≡ shown (refusal 6 0) → length area - end ≤ size → Answered (appendAt end allowed (take size bytes) area) r area
+  unfolding appendAt
+  no-room r e l = rw (long, lt-leb (end + 1 + size) (length area) (omega arith)) (record { answer = e; area = refl })
+
+  pub unfinished : (r : Answer) → r ≡ shown (refusal 8 0) → size < length area - end → (b : Bool) → b ≡ every isUnused (drop end area) → b ≡ false
+      → Answered (appendAt end allowed (take size bytes) area) r area
+  unfolding appendAt
+  unfinished r e l b p q = let z : every isUnused (drop end area) ≡ false = sym p ∙ q in rw (room l, z) (record { answer = e; area = refl })
+
+  pub stored : (r : Answer) (stores : ℕ) (now : List ℕ) → r ≡ shown (done stores) → Made (storeSome allowed (appending end (take size bytes)) area) stores now
+      → size < length area - end → (b : Bool) → b ≡ every isUnused (drop end area) → b ≡ true → Answered (appendAt end allowed (take size bytes) area) r now
+  unfolding appendAt storeSome
+  stored r stores now e D l b p q =
+      let z : every isUnused (drop end area) ≡ true = sym p ∙ q in
+      rw (room l, z) (record { answer = e ∙ ap (λ (k : ℕ). shown (done k)) (D .count); area = D .area })
+
+-- ---- the ways through `append_read`
+
+module _ (bytes : List ℕ) (r : Reading) (e : r ≡ readingOf (read bytes)) where
+  -- the record that was read
+  record Read : Type 0 where
+    case : Case
+    is-read : read bytes ≡ next case (r .length)
+
+  was-read : r .number ≡ 0 → Read
+  was-read z = go (read bytes) refl e
+    where
+      go : (o : Out Case) → read bytes ≡ o → r ≡ readingOf o → Read
+      go (stop x p) g h =
+          let same : r .number ≡ x = ap (λ (q : Reading). q .number) h ∙ (unfold readingOf in refl) in
+          absurd (omega (arith, refusal-least bytes x p g))
+      go (next c i) g h =
+          let same : r .length ≡ i = ap (λ (q : Reading). q .length) h ∙ (unfold readingOf in refl) in
+          record { case = c; is-read = g ∙ ap (next c) (sym same) }
+
+  pub record-within : r .number ≡ 0 → r .length ≤ length bytes
+  record-within z = let R = was-read z in accepted bytes (R .case) (r .length) (R .is-read) .inside
+
+  module _ (area : List ℕ) (end allowed : ℕ) where
+    pub record-appended : r .number ≡ 0 → (a : Answer) (now : List ℕ) → Answered (appendAt end allowed (take (r .length) bytes) area) a now
+        → Answered (appendRead end allowed bytes area (read bytes)) a now
+    record-appended z a now D = rw (was-read z .is-read) D
+
+    pub record-refused : (r .number ≡ 0 → ⊥) → (a : Answer) → a ≡ shown (refusal (r .number) (r .place)) → Answered (appendRead end allowed bytes area (read bytes)) a area
+    record-refused n a h = rw (missed bytes r e n) (record { answer = h; area = refl })
+
+-- ---- the ways through `append`
+
+module _ (area : List ℕ) (l : End) (e : l ≡ endShown (found area)) where
+  pub number-is : l .number ≡ found area .ending .number
+  number-is = ap (λ (x : End). x .number) e
+
+  pub place-is : l .place ≡ found area .ending .place
+  place-is = ap (λ (x : End). x .place) e
+
+  pub end-is : l .end ≡ found area .end
+  end-is = ap (λ (x : End). x .end) e
+
+  pub end-inside : l .number ≡ 0 → l .end ≤ length area
+  end-inside z = omega (arith, end-is, end-within area (sym number-is ∙ z))
+
+  module _ (bytes : List ℕ) (allowed : ℕ) where
+    pub appended : l .number ≡ 0 → (r : Answer) (now : List ℕ) → Answered (appendRead (l .end) allowed bytes area (read bytes)) r now → Answered (append area bytes allowed) r now
+    unfolding append
+    appended z r now D = let sound : found area .ending .number ≡ 0 = sym number-is ∙ z in rw (sound, ← end-is) D
+
+    pub log-faulty : (l .number ≡ 0 → ⊥) → (r : Answer) → r ≡ shown (refusal (l .number) (l .place)) → Answered (append area bytes allowed) r area
+    unfolding append
+    log-faulty n r h = rw (ne-eqb (found area .ending .number) 0 (λ z. n (number-is ∙ z)), ← number-is, ← place-is) (record { answer = h; area = refl })

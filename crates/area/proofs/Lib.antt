@@ -1,0 +1,4 @@
+pub mod Framing
+pub mod Storing
+pub mod Appending
+pub mod Clearing

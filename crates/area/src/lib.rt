@@ -1,0 +1,244 @@
+// Records in a lent area, stored one byte at a time, so that a cut loses no finished frame.
+ghost use mathlib.Core.Path.{_≡_};
+ghost use Prim.Native.Nat.{suc, _+_, _≤_, _<_};
+ghost use lib.ListN.{length, take, drop};
+ghost use lib.Seq.{sets};
+ghost use Rattle.finite.specs.Lists.{every};
+ghost use Rattle.model.specs.Record.{read};
+ghost use Rattle.model.specs.Answers.{refusal};
+ghost use Rattle.answers.specs.Shown.{shown};
+ghost use Rattle.area_model.specs.Area.{isUnused, none, byReading, frameAt, found, appending, clearing, storeSome, appendAt, appendRead, append as appended, repair as repaired};
+ghost use Rattle.area.specs.Shown.{frameShown, endShown, Answered, Made, Cleared};
+use answers::Answer;
+use case::Case;
+
+// The flag of a finished frame, and the byte that ends the log.
+const FINISHED: u8 = 0;
+
+const UNUSED: u8 = 255;
+
+// Refusals: a flag that is neither; too little room for a record; bytes behind the last finished frame that are not unused.
+const BAD_FLAG: u32 = 9;
+
+const NO_ROOM: u8 = 6;
+
+const UNFINISHED: u8 = 8;
+
+// What stands at a place of an area: a finished frame, as where its record begins and how many bytes that has; or none, and the log ends
+// there, by which fault of its own, 0 if by none, and at which place.
+#[repr(C)]
+pub struct Frame {
+    pub number: u32,
+    pub ended: bool,
+    pub place: usize,
+    pub at: usize,
+    pub length: usize,
+}
+
+// No finished frame: the log ends, with that fault.
+fn no_frame(number: u32, place: usize) -> Frame
+    ensures { λ r. ⌜ r ≡ frameShown 0 (none (record { number = number; place = place })) ⌝ }
+{
+    Frame {
+        number,
+        ended: true,
+        place,
+        at: 0,
+        length: 0,
+    }
+}
+
+// The frame at a place where the flag of a finished one stands.
+fn finished_frame(area: &[u8], at: usize) -> Frame
+    requires { ⌜ at < length (now area) ⌝ }
+    ensures { λ r. ⌜ r ≡ frameShown at (byReading at (read (drop (suc at) (now (area .entry))))) ⌝ }
+{
+    let start = at + 1;
+    let reading = reader::read_case(&area[start..]);
+    if reading.number == 0 {
+        return Frame {
+            number: 0,
+            ended: false,
+            place: 0,
+            at: start,
+            length: reading.length,
+        };
+    }
+    no_frame(reading.number as u32, start + reading.place)
+}
+
+// What stands at a place of an area; past its end no frame. The next frame begins behind the record of this one.
+pub fn next_frame(area: &[u8], at: usize) -> Frame
+    ensures { λ r. ⌜ r ≡ frameShown at (frameAt (now (area .entry)) at) ⌝ }
+{
+    if area.len() <= at {
+        return no_frame(0, 0);
+    }
+    let flag = area[at];
+    if flag == UNUSED {
+        return no_frame(0, 0);
+    }
+    if flag == FINISHED {
+        return finished_frame(area, at);
+    }
+    no_frame(BAD_FLAG, at)
+}
+
+// How an area's log ends: its own fault, 0 if it has none, and that one's place; and the place behind the last finished frame.
+pub struct End {
+    pub number: u32,
+    pub place: usize,
+    pub end: usize,
+}
+
+// The end of an area's log. Each record is read once.
+fn find_end(area: &[u8]) -> End
+    ensures { λ r. ⌜ r ≡ endShown (found (now (area .entry))) ⌝ }
+{
+    let mut at = 0;
+    loop {
+        let frame = next_frame(area, at);
+        if frame.ended {
+            return End {
+                number: frame.number,
+                place: frame.place,
+                end: at,
+            };
+        }
+        at = frame.at + frame.length;
+    }
+}
+
+// The log's own fault as an answer.
+fn log_fault(log: End) -> Answer
+    ensures { λ r. ⌜ r ≡ shown (refusal (log .number) (log .place)) ⌝ }
+{
+    Answer {
+        number: log.number,
+        place: log.place,
+        length: 0,
+        finals: [0u32; Case::MOST_ADDRESSES],
+    }
+}
+
+// Stores the first bytes of a record from a place on, one at a time, front to back.
+fn store_front(area: &mut [u8], at: usize, bytes: &[u8], count: usize)
+    requires { ⌜ (count ≤ length (now bytes)) × (at + count ≤ length (now area)) ⌝ }
+    ensures { λ _. ⌜ now (area .exit) ≡ sets (now (area .entry)) at (take count (now (bytes .entry))) ⌝ }
+{
+    let mut i = 0;
+    while i < count {
+        area[at + i] = bytes[i];
+        i += 1;
+    }
+}
+
+// Stores a record of so many bytes behind the end of the log and then its flag, and stops after as many stores as allowed. Gives the
+// stores made.
+fn store_frame(area: &mut [u8], end: usize, bytes: &[u8], size: usize, allowed: usize) -> usize
+    requires { ⌜ (size ≤ length (now bytes)) × (end + 1 + size ≤ length (now area)) ⌝ }
+    ensures { λ r. ⌜ Made (storeSome allowed (appending end (take size (now (bytes .entry)))) (now (area .entry))) r (now (area .exit)) ⌝ }
+{
+    if allowed <= size {
+        store_front(area, end + 1, bytes, allowed);
+        return allowed;
+    }
+    store_front(area, end + 1, bytes, size);
+    area[end] = FINISHED;
+    size + 1
+}
+
+// Whether every byte from a place on is unused.
+fn all_unused(area: &[u8], from: usize) -> bool
+    ensures { λ r. ⌜ r ≡ every isUnused (drop from (now (area .entry))) ⌝ }
+{
+    let mut i = from;
+    while i < area.len() {
+        if area[i] != UNUSED {
+            return false;
+        }
+        i += 1;
+    }
+    true
+}
+
+// Appends a record of so many bytes behind the end of a log without fault: 6, 8, or 0 and the stores made.
+fn append_at(area: &mut [u8], end: usize, bytes: &[u8], size: usize, allowed: usize) -> Answer
+    requires { ⌜ (size ≤ length (now bytes)) × (end ≤ length (now area)) ⌝ }
+    ensures { λ r. ⌜ Answered (appendAt end allowed (take size (now (bytes .entry))) (now (area .entry))) r (now (area .exit)) ⌝ }
+{
+    if size < area.len() - end {
+        if all_unused(area, end) {
+            let stores = store_frame(area, end, bytes, size, allowed);
+            return answers::finished(stores);
+        }
+        return answers::refused(UNFINISHED, 0);
+    }
+    answers::refused(NO_ROOM, 0)
+}
+
+// Appends the record at the start of the bytes: its own fault comes first.
+fn append_read(area: &mut [u8], end: usize, bytes: &[u8], allowed: usize) -> Answer
+    requires { ⌜ end ≤ length (now area) ⌝ }
+    ensures { λ r. ⌜ Answered (appendRead end allowed (now (bytes .entry)) (now (area .entry)) (read (now (bytes .entry)))) r (now (area .exit)) ⌝ }
+{
+    let reading = reader::read_case(bytes);
+    if reading.number == 0 {
+        return append_at(area, end, bytes, reading.length, allowed);
+    }
+    answers::refused(reading.number, reading.place)
+}
+
+// Appends the record at the start of the bytes to the log in an area, by at most so many stores: the log's own fault; the record's 1 to 4
+// or 23; 6 for too little room; 8 where bytes behind the last finished frame are not unused; or 0 and the stores made.
+pub fn append(area: &mut [u8], bytes: &[u8], allowed: usize) -> Answer
+    ensures { λ r. ⌜ r ≡ shown (appended (now (area .entry)) (now (bytes .entry)) allowed .answer) ⌝ }
+    ensures { λ r. ⌜ now (area .exit) ≡ appended (now (area .entry)) (now (bytes .entry)) allowed .buffer ⌝ }
+{
+    let log = find_end(area);
+    if log.number == 0 {
+        return append_read(area, log.end, bytes, allowed);
+    }
+    log_fault(log)
+}
+
+// Makes a byte unused, and gives the stores that took.
+fn clear_byte(area: &mut [u8], at: usize) -> usize
+    requires { ⌜ at < length (now area) ⌝ }
+    ensures { λ r. ⌜ Cleared (now (area .entry)) at r (now (area .exit)) ⌝ }
+{
+    if area[at] == UNUSED {
+        return 0;
+    }
+    area[at] = UNUSED;
+    1
+}
+
+// Makes every byte from a place on unused, front to back, and stops after as many stores as allowed. Gives the stores made.
+fn clear(area: &mut [u8], from: usize, allowed: usize) -> usize
+    ensures { λ r. ⌜ Made (storeSome allowed (clearing from (drop from (now (area .entry)))) (now (area .entry))) r (now (area .exit)) ⌝ }
+{
+    let mut i = from;
+    let mut made = 0;
+    while i < area.len() {
+        if allowed <= made {
+            return made;
+        }
+        made += clear_byte(area, i);
+        i += 1;
+    }
+    made
+}
+
+// Makes everything behind the last finished frame unused, by at most so many stores: the log's own fault, or 0 and the stores made.
+pub fn repair(area: &mut [u8], allowed: usize) -> Answer
+    ensures { λ r. ⌜ r ≡ shown (repaired (now (area .entry)) allowed .answer) ⌝ }
+    ensures { λ r. ⌜ now (area .exit) ≡ repaired (now (area .entry)) allowed .buffer ⌝ }
+{
+    let log = find_end(area);
+    if log.number == 0 {
+        let stores = clear(area, log.end, allowed);
+        return answers::finished(stores);
+    }
+    log_fault(log)
+}

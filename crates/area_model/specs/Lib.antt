@@ -1,0 +1,4 @@
+pub mod Area
+pub mod Changes
+pub mod Claim
+pub mod Worked
