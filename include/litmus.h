@@ -9,7 +9,8 @@
  * Any bytes, any sizes, models, permutations and places are fine: there is an answer for each.
  * A size or room of 0 is fine, but the pointer that goes with it must not be NULL. No call keeps a
  * pointer, allocates memory or has any other state; calls may run at the same time. Two calls that
- * do must not share `out` or a tally, nor may one call's `out` be the other's record.
+ * do must not share `out`, a tally or an area that one of them stores to, nor may one call's `out`
+ * or such an area be the other's record.
  *
  * A case is one candidate execution in a struct, litmus_case. The calls litmus_case_.. are for
  * programs that build cases or look into them.
@@ -66,8 +67,11 @@ enum {
  *                is not above the pair before it
  *             5  not a permutation number, or it does not map the case's labels onto themselves
  *             6  the buffer has too few bytes from the given place, or the place is past its end;
- *                of a log: a count of the tally is full
+ *                of a log: a count of the tally is full; of an area: it has too few bytes behind
+ *                the last finished frame
  *             7  no such model
+ *             8  a byte of the area behind the last finished frame is not FF
+ *             9  a frame's flag is neither 00 nor FF
  *            11  a thread's order is not irreflexive and transitive
  *            12  a thread's order leaves two of its own events unordered
  *            13  a thread's order breaks its program order at a barrier, on one address or
@@ -87,9 +91,11 @@ enum {
  *          Where several rules are broken, the lowest is given.
  * place    under 1 to 4, the byte where the faulty number starts (under 4, of a pair: its first
  *          number, of a dependency: its class; of a name that is cut short: its first byte);
- *          under 23, the first byte of the name that is not printable; otherwise, and in every
- *          answer about a litmus_case, 0
- * length   under 0 and 11 to 18, how many bytes the record takes; otherwise 0
+ *          under 23, the first byte of the name that is not printable; under 9, the flag. Of an
+ *          area's log it counts from the area's start. Otherwise, and in every answer about a
+ *          litmus_case, 0
+ * length   under 0 and 11 to 18, how many bytes the record takes; of litmus_area_append and
+ *          litmus_area_repair under 0, how many stores were made; otherwise 0
  * finals   of litmus_judge and litmus_case_judge under 0, what each address holds at the end, and 0
  *          for addresses that the case does not have; otherwise all 0
  */
@@ -239,6 +245,70 @@ typedef struct {
  */
 litmus_log_answer litmus_log_judge(const uint8_t *bytes, size_t size, uint64_t from, bool last,
                                    litmus_tally *tally);
+
+/*
+ * An area is lent bytes that keep records through a power failure. It begins as all FF and holds a
+ * log of frames, back to back from its first byte on. A frame is a flag byte and a record: 00 marks
+ * a finished frame. The log ends at a flag FF, or where the last frame fills the area to its last
+ * byte. What lies behind the last finished frame is no part of the log.
+ *
+ * The log has a fault of its own where a flag is neither 00 nor FF (9), or where litmus_read
+ * refuses the record of a finished frame (1 to 4 or 23). Its place counts from the area's start.
+ *
+ * A call that stores does so one byte at a time, and stops after as many stores as it is allowed.
+ * It answers 0 with the stores made as `length`, cut or not. Whichever store is the last one, every
+ * record of a finished frame is still found.
+ */
+
+/*
+ * What stands at a place of an area: a finished frame, or none, and then how the log ends there.
+ *
+ * number   ended: 0, or the log's own fault: 9, 1 to 4 or 23; otherwise 0
+ * ended    no finished frame stands there: the log ends
+ * place    of that fault, from the area's start; otherwise 0
+ * at       not ended: where the record begins; otherwise 0
+ * length   not ended: how many bytes it has; otherwise 0. The next frame is at `at` + `length`
+ */
+typedef struct {
+    uint32_t number;
+    bool ended;
+    uint64_t place;
+    uint64_t at;
+    uint64_t length;
+} litmus_frame;
+
+/*
+ * The frame at a place: 0 for the first, then the last one's `at` + `length`. Past the area's end
+ * the log has ended, with 0. So the records are found:
+ *
+ *     frame = litmus_area_next(area, size, 0)
+ *     while not frame.ended: the record is at area + frame.at and has frame.length bytes
+ *             frame = litmus_area_next(area, size, frame.at + frame.length)
+ *     frame.number is 0, or the log's own fault at frame.place
+ */
+litmus_frame litmus_area_next(const uint8_t *area, size_t size, uint64_t at);
+
+/*
+ * Appends the record, without the bytes behind it: stores its bytes front to back, and the flag
+ * last. Cut before the flag, the log is as it was.
+ *
+ * Checked in this order: the log (9, 1 to 4, 23), the record (1 to 4, 23), room for the frame (6),
+ * and whether every byte behind the last finished frame is FF (8), where litmus_area_repair helps.
+ * Under a refusal nothing is stored. area and record must not overlap.
+ *
+ * A refusal with 1 to 4 or 23 is the log's own if litmus_area_next, called as above up to the log's
+ * end, gives a number there. Otherwise it is the record's, and its place counts from the record's
+ * start.
+ */
+litmus_answer litmus_area_append(uint8_t *area, size_t size, const uint8_t *record,
+                                 size_t record_size, uint64_t allowed);
+
+/*
+ * Fills what lies behind the last finished frame with FF, front to back, by a store for each byte
+ * that is not FF. Then that room can be appended to again; cut, it takes another repair. Refused
+ * with the log's own fault (9, 1 to 4, 23), it stores nothing.
+ */
+litmus_answer litmus_area_repair(uint8_t *area, size_t size, uint64_t allowed);
 
 /*
  * A case. Threads, addresses, events and dependencies are numbered from 0. A thread's program order

@@ -10,9 +10,10 @@ pub struct Answer {
     /// 0, or what is wrong; [`meaning`] says it in words.
     pub number: u32,
     /// Of a record under 1 to 4, the byte where the faulty number starts; under 23, the name's first
-    /// byte that is not printable.
+    /// byte that is not printable; under 9, the flag. Of an area's log, from the area's start.
     pub place: u64,
-    /// Under 0 and 11 to 18, how many bytes the record takes.
+    /// Under 0 and 11 to 18, how many bytes the record takes; of an append or a repair under 0, how
+    /// many stores were made.
     pub length: u64,
     /// When an execution is accepted, what each address holds at the end.
     pub finals: [u32; ADDRESSES],
@@ -61,8 +62,10 @@ pub fn meaning(number: u32) -> &'static str {
         3 => "a number is outside its range",
         4 => "a dependency, a write order entry or a pair may not stand there",
         5 => "not a permutation of the case's labels",
-        6 => "too little room in the buffer from the given place, or a count of the tally is full",
+        6 => "too little room in the buffer from the given place or in the area, or a count of the tally is full",
         7 => "no such model",
+        8 => "bytes behind the last finished frame are not FF; a repair clears them",
+        9 => "a frame's flag is neither 00 nor FF",
         11 => "a thread's order is not irreflexive and transitive",
         12 => "a thread's order leaves two of its own events unordered",
         13 => "a thread's order breaks its program order at a barrier, on one address or against a dependency",
@@ -155,19 +158,19 @@ impl fmt::Display for Verdict {
     }
 }
 
-/// Why a call did nothing: 1 to 7, or 23.
+/// Why a call did nothing: 1 to 9, or 23.
 #[derive(Clone, Copy, Debug, PartialEq, Eq)]
 pub struct Refusal {
     pub number: u32,
-    /// Of a record, the byte where the fault lies, as in [`Answer`], and of a log from its start; None
-    /// under 5 to 7, and of a case, which has no bytes.
+    /// Of a record, the byte where the fault lies, as in [`Answer`], and of a log from its start, which
+    /// in an area is the area's; None under 5 to 8, and of a case, which has no bytes.
     pub place: Option<usize>,
 }
 
 impl Refusal {
     /// Of bytes: only some numbers have a place.
     pub(crate) fn of_bytes(number: u32, place: u64) -> Refusal {
-        let placed = matches!(number, 1..=4 | 23);
+        let placed = matches!(number, 1..=4 | 9 | 23);
         Refusal {
             number,
             place: placed.then_some(place as usize),

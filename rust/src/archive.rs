@@ -1,6 +1,6 @@
 //! The functions of `litmus.h`.
 
-use crate::{Answer, Case, CaseAnswer, Choice, LogAnswer, Part, Rows, Tally};
+use crate::{Answer, Case, CaseAnswer, Choice, Frame, LogAnswer, Part, Rows, Tally};
 
 // Not bundled, so that the wrapper itself, and a program that calls none of these, builds without
 // the archive.
@@ -47,6 +47,15 @@ extern "C" {
         last: bool,
         tally: *mut Tally,
     ) -> LogAnswer;
+    pub fn litmus_area_next(area: *const u8, size: usize, at: u64) -> Frame;
+    pub fn litmus_area_append(
+        area: *mut u8,
+        size: usize,
+        record: *const u8,
+        record_size: usize,
+        allowed: u64,
+    ) -> Answer;
+    pub fn litmus_area_repair(area: *mut u8, size: usize, allowed: u64) -> Answer;
     pub fn litmus_case_read(record: *const u8, size: usize) -> CaseAnswer;
     pub fn litmus_case_write(c: Case, out: *mut u8, room: usize, at: u64) -> Answer;
     pub fn litmus_case_judge(c: Case, model: u64) -> Answer;

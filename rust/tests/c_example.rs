@@ -1,45 +1,23 @@
 //! The C examples, compiled against the header and the archive, and how C lays out its structs.
 
+#[path = "common/compile.rs"]
+mod compile;
 #[path = "common/lines.rs"]
 mod lines;
 
+use compile::{compiled, root, temporary};
 use lines::lines;
-use litmus::{Case, CaseAnswer, Choice, LogAnswer, Tally};
+use litmus::{Case, CaseAnswer, Choice, Frame, LogAnswer, Tally};
 use ordinary::generate::any_records;
 use ordinary::random::Random;
 use std::fs::{self, File};
 use std::mem::{offset_of, size_of};
-use std::path::{Path, PathBuf};
+use std::path::Path;
 use std::process::{Command, Output};
 
 const C: &[&str] = &["cc", "-std=c99"];
 const OPTIMISED_C: &[&str] = &["cc", "-std=c99", "-O2"];
 const CPP: &[&str] = &["g++", "-x", "c++"];
-
-fn root() -> PathBuf {
-    Path::new(env!("CARGO_MANIFEST_DIR")).join("..")
-}
-
-fn temporary(name: &str) -> PathBuf {
-    Path::new(env!("CARGO_TARGET_TMPDIR")).join(name)
-}
-
-/// The program that a compiler makes of a source.
-fn compiled(compiler: &[&str], source: &Path, name: &str) -> PathBuf {
-    let program = temporary(name);
-    let status = Command::new(compiler[0])
-        .args(&compiler[1..])
-        .args(["-Wall", "-Wextra", "-Werror", "-I"])
-        .arg(root().join("include"))
-        .arg(source)
-        .args(["-x", "none"])
-        .arg(root().join("target/staticlib/liblitmus.a"))
-        .arg("-o")
-        .arg(&program)
-        .status();
-    assert!(status.expect("the compiler starts").success());
-    program
-}
 
 /// Runs it on a file in `examples/`, or one with a whole path.
 fn run(program: &Path, file: impl AsRef<Path>) -> Output {
@@ -94,10 +72,9 @@ fn prints_what_the_library_answers() {
     assert!(!run(&program, "no such file").status.success());
 }
 
-/// Runs it on two files in `examples/`: what it prints, its errors, and whether it ends well.
-fn run_on_two(program: &Path, files: [&str; 2]) -> (String, String, bool) {
-    let mut command = Command::new(program);
-    command.current_dir(root().join("examples")).args(files);
+/// Runs it in `examples/`: what it prints, its errors, and whether it ends well.
+fn said(command: &mut Command) -> (String, String, bool) {
+    command.current_dir(root().join("examples"));
     let output = command.output().expect("the example starts");
     let [printed, errors] =
         [output.stdout, output.stderr].map(|text| String::from_utf8_lossy(&text).into_owned());
@@ -131,7 +108,7 @@ fn files_two_records() {
         ),
     ];
     for (files, lines) in expected {
-        let found = run_on_two(&program, files);
+        let found = said(Command::new(&program).args(files));
         assert_eq!(found, (lines.to_string(), String::new(), true), "{files:?}");
     }
     for (files, errors) in [
@@ -141,7 +118,7 @@ fn files_two_records() {
         ),
         (["small.litmus", "none"], "none: it can't be opened\n"),
     ] {
-        let found = run_on_two(&program, files);
+        let found = said(Command::new(&program).args(files));
         assert_eq!(found, (String::new(), errors.to_string(), false));
     }
 }
@@ -213,6 +190,46 @@ fn c_judges_logs() {
     judges_logs(OPTIMISED_C, "c_log_optimised");
 }
 
+/// An area with room for two records, in which an append was cut.
+fn fills_an_area(compiler: &[&str], name: &str) {
+    let program = compiled(compiler, &root().join("examples/c/area.c"), name);
+    let (area, log) = (temporary(&format!("{name}.area")), temporary(name));
+    let log = log.with_extension("log");
+    let small = fs::read(root().join("examples/small.litmus")).expect("a record");
+    let cut = [&[0xff], &small[..7], &[0xff; 37]].concat();
+    fs::write(&area, cut).expect("it is written");
+    for (input, lines, errors) in [
+        (&small[..], "cleared 7 bytes\nappended 19 bytes\n", ""),
+        (&[], "", ""),
+        (&[0], "", "refused with 3 at byte 0\n"),
+        (
+            &small.repeat(2),
+            "appended 19 bytes\n",
+            "refused with 6 at byte 0\n",
+        ),
+        (&small[..5], "", "refused with 1 at byte 5\n"),
+    ] {
+        fs::write(&log, input).expect("it is written");
+        let input = File::open(&log).expect("a file");
+        let found = said(Command::new(&program).arg(&area).stdin(input));
+        let expected = (lines.to_string(), errors.to_string(), errors.is_empty());
+        assert_eq!(found, expected);
+    }
+    let frame = [&[0], &small[..]].concat();
+    let filled = [&frame[..], &frame, &[0xff; 5]].concat();
+    assert_eq!(fs::read(&area).expect("an area"), filled);
+    fs::write(&area, [&frame[..], &[1]].concat()).expect("it is written");
+    let (_, errors, well) = said(Command::new(&program).arg(&area));
+    assert_eq!((&errors[..], well), ("refused with 9 at byte 20\n", false));
+    assert!(!run(&program, "no such file").status.success());
+}
+
+#[test]
+fn c_fills_an_area() {
+    fills_an_area(C, "c_area");
+    fills_an_area(OPTIMISED_C, "c_area_optimised");
+}
+
 /// Every field lies in C where it lies in Rust.
 #[test]
 fn structs_lie_alike() {
@@ -236,6 +253,7 @@ fn structs_lie_alike() {
     fields!(Choice, "litmus_choice", which length);
     fields!(Tally, "litmus_tally", records accepted broken);
     fields!(LogAnswer, "litmus_log_answer", number ended place length);
+    fields!(Frame, "litmus_frame", number ended place at length);
     let source = temporary("layout.c");
     let text = format!(
         "#include \"litmus.h\"\n#include <stdio.h>\n\

@@ -1,48 +1,26 @@
 //! The program `classes`.
 
+#[path = "common/command.rs"]
+mod command;
+
+use command::{examples, folder, run};
 use ordinary::generate::{self, relabelled};
 use ordinary::random::Random;
 use ordinary::{representative, write};
 use std::ffi::OsStr;
 use std::fs;
-use std::io::Write;
 use std::os::unix::ffi::OsStrExt;
-use std::path::{Path, PathBuf};
-use std::process::{Command, Output, Stdio};
+use std::path::Path;
+use std::process::Output;
 
-/// Runs it in a folder with bytes as standard input.
+const PROGRAM: &str = env!("CARGO_BIN_EXE_classes");
+
 fn classes(folder: &Path, words: &[&OsStr], bytes: &[u8]) -> Output {
-    let mut command = Command::new(env!("CARGO_BIN_EXE_classes"));
-    command.args(words).current_dir(folder);
-    command.stdin(Stdio::piped()).stdout(Stdio::piped());
-    let mut child = command.stderr(Stdio::piped()).spawn().expect("it starts");
-    let mut input = child.stdin.take().expect("a pipe");
-    // It need not read its input.
-    let _ = input.write_all(bytes);
-    drop(input);
-    child.wait_with_output().expect("it ends")
+    run(PROGRAM, folder, words, bytes)
 }
 
-/// Holds its output, its errors and its exit status to what is expected.
 fn expect(folder: &Path, words: &[&str], bytes: &[u8], expected: (&str, &str, i32)) {
-    let words: Vec<&OsStr> = words.iter().map(OsStr::new).collect();
-    let output = classes(folder, &words, bytes);
-    let [printed, errors] =
-        [&output.stdout, &output.stderr].map(|text| String::from_utf8_lossy(text));
-    let status = output.status.code().expect("an exit status");
-    assert_eq!((&*printed, &*errors, status), expected, "{words:?}");
-}
-
-fn examples() -> PathBuf {
-    Path::new(env!("CARGO_MANIFEST_DIR")).join("../examples")
-}
-
-/// An empty folder of a test's own.
-fn folder(name: &str) -> PathBuf {
-    let folder = Path::new(env!("CARGO_TARGET_TMPDIR")).join(name);
-    let _ = fs::remove_dir_all(&folder);
-    fs::create_dir(&folder).expect("a folder");
-    folder
+    command::expect(PROGRAM, folder, words, bytes, expected);
 }
 
 #[test]

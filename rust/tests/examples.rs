@@ -83,6 +83,14 @@ fn a_log_is_judged() {
 }
 
 #[test]
+fn an_area_is_kept() {
+    assert_eq!(
+        example("keep_an_area", &folder().join("dekker.litmus")),
+        "after 77 stores:\nafter 78 stores:\n    Dekker\n"
+    );
+}
+
+#[test]
 fn a_case_is_built() {
     let file = Path::new(env!("CARGO_TARGET_TMPDIR")).join("built.litmus");
     assert_eq!(

@@ -3,7 +3,7 @@
 use litmus::{compared, lesser, representative, same_class, write_representative};
 use litmus::{judge, judge_raw, judged_name, meaning, name, read, read_raw, renumber};
 use litmus::{Answer, Case, CaseAnswer, Lesser, Log, Model, Refusal, Rule, Tally, Verdict};
-use ordinary::answer::{MODEL, UNPRINTABLE};
+use ordinary::answer::{FLAG, UNPRINTABLE};
 use ordinary::generate;
 use ordinary::judge::RULES;
 use ordinary::limits::{most_bytes, EDITIONS, FIRST, SECOND};
@@ -19,10 +19,10 @@ const SMALL: &[u8] = include_bytes!("../../examples/small.litmus");
 /// Here and in the header.
 #[test]
 fn every_number_has_its_own_words() {
-    let numbers = (0..=MODEL).chain(RULES).chain([UNPRINTABLE]);
+    let numbers = (0..=FLAG).chain(RULES).chain([UNPRINTABLE]);
     let words: BTreeSet<&str> = numbers.clone().map(meaning).collect();
     assert_eq!(words.len(), numbers.clone().count());
-    assert!([8, 10, 19, 22, 24]
+    assert!([10, 19, 22, 24]
         .iter()
         .all(|&n| !words.contains(meaning(n))));
     for number in numbers {
@@ -302,6 +302,16 @@ fn texts() {
         (3, Some(0), "3: a number is outside its range (byte 0)"),
         (3, None, "3: a number is outside its range"),
         (7, None, "7: no such model"),
+        (
+            8,
+            None,
+            "8: bytes behind the last finished frame are not FF; a repair clears them",
+        ),
+        (
+            9,
+            Some(20),
+            "9: a frame's flag is neither 00 nor FF (byte 20)",
+        ),
         (
             23,
             Some(18),

@@ -9,9 +9,9 @@ ghost use Rattle.rules.specs.Verdict.{modelOf};
 ghost use Rattle.answers.specs.Shown.{shown};
 use case::Case;
 
-// The answer of a call. The number is 0 (accepted or done), a refusal 1 to 7 or 23, or the lowest broken rule 11 to 18. The
-// place is where a faulty number starts, or a name's first byte that is not printable, the length that of the record, and the
-// finals are the final memory by address. Fields that an answer doesn't speak of are 0.
+// The answer of a call. The number is 0 (accepted or done), a refusal 1 to 9 or 23, or the lowest broken rule 11 to 18. The
+// place is where a faulty number starts, a name's first byte that is not printable, or a flag, the length that of the record or
+// how many stores were made, and the finals are the final memory by address. Fields that an answer doesn't speak of are 0.
 #[repr(C)]
 pub struct Answer {
     pub number: u32,
@@ -32,7 +32,7 @@ pub fn refused(number: u8, place: usize) -> Answer
     }
 }
 
-// Done, with a record of so many bytes.
+// Done, with a record of so many bytes, or by so many stores.
 pub fn finished(length: usize) -> Answer
     ensures { λ r. ⌜ r ≡ shown (done length) ⌝ }
 {

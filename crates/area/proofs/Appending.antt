@@ -6,10 +6,10 @@ use native.Mathlib.Numerals.{add-one}
 use mathlib.Core.Path.{_≡_, refl, sym, ap, _∙_}
 use mathlib.Core.Bool.{Bool, true, false}
 use mathlib.Core.List.{List, []}
-use lib.Dec.{leb}
+use lib.Dec.{leb, ltb}
 use lib.ListN.{length, getD, take, drop, drop-of-length-le}
 use lib.Seq.{drop-cons, length-take-le}
-use borrow.Author.Tests.{eq-eqb, ne-eqb, le-leb, lt-leb}
+use borrow.Author.Tests.{eq-eqb, ne-eqb, le-leb, lt-leb, leb-true, ltb-true, ltb-false}
 use Rattle.finite.specs.Lists.{every}
 use Rattle.number.specs.Reader.{Out, stop, next}
 use Rattle.model.specs.Case.{Case}
@@ -43,28 +43,35 @@ module _ (s : List ℕ) (from i : ℕ) (same : every isUnused (drop i s) ≡ eve
 
 -- ---- the ways through `append_at`
 
-module _ (area : List ℕ) (end : ℕ) (bytes : List ℕ) (size allowed : ℕ) (fits : size ≤ length bytes) (inside : end ≤ length area) where
-  long : length (take size bytes) ≡ size
-  long = length-take-le size bytes fits
+pub room-is : (area : List ℕ) (end size : ℕ) → end ≤ length area → ltb size (length area - end) ≡ leb (end + 1 + size) (length area)
+room-is area end size inside = go (ltb size (length area - end)) refl
+  where
+    go : (y : Bool) → ltb size (length area - end) ≡ y → y ≡ leb (end + 1 + size) (length area)
+    go true e = let l : size < length area - end = ltb-true size (length area - end) e in sym (le-leb (end + 1 + size) (length area) (omega arith))
+    go false e = let l : length area - end ≤ size = ltb-false size (length area - end) e in sym (lt-leb (end + 1 + size) (length area) (omega arith))
 
-  room : size < length area - end → leb (end + 1 + length (take size bytes)) (length area) ≡ true
-  room l = rw long (le-leb (end + 1 + size) (length area) (omega arith))
+pub room-for : (area : List ℕ) (end size : ℕ) (y : Bool) → y ≡ leb (end + 1 + size) (length area) → y ≡ true → end + 1 + size ≤ length area
+room-for area end size y e l = leb-true (end + 1 + size) (length area) (sym e ∙ l)
 
-  pub no-room : (r : Answer) → r ≡ shown (refusal 6 0) → length area - end ≤ size → Answered (appendAt end allowed (take size bytes) area) r area
+module _ (area : List ℕ) (end : ℕ) (bytes : List ℕ) (size allowed : ℕ) (fits : size ≤ length bytes) (y : Bool) (room : y ≡ leb (end + 1 + size) (length area)) where
+  room-of : (z : Bool) → y ≡ z → leb (end + 1 + length (take size bytes)) (length area) ≡ z
+  room-of z e = rw (length-take-le size bytes fits) (sym room ∙ e)
+
+  pub no-room : (r : Answer) → r ≡ shown (refusal 6 0) → y ≡ false → Answered (appendAt end allowed (take size bytes) area) r area
   unfolding appendAt
-  no-room r e l = rw (long, lt-leb (end + 1 + size) (length area) (omega arith)) (record { answer = e; area = refl })
+  no-room r e n = rw (room-of false n) (record { answer = e; area = refl })
 
-  pub unfinished : (r : Answer) → r ≡ shown (refusal 8 0) → size < length area - end → (b : Bool) → b ≡ every isUnused (drop end area) → b ≡ false
-      → Answered (appendAt end allowed (take size bytes) area) r area
-  unfolding appendAt
-  unfinished r e l b p q = let z : every isUnused (drop end area) ≡ false = sym p ∙ q in rw (room l, z) (record { answer = e; area = refl })
+  module _ (b : Bool) (free : b ≡ every isUnused (drop end area)) (l : y ≡ true) where
+    pub unfinished : (r : Answer) → r ≡ shown (refusal 8 0) → b ≡ false → Answered (appendAt end allowed (take size bytes) area) r area
+    unfolding appendAt
+    unfinished r e q = let z : every isUnused (drop end area) ≡ false = sym free ∙ q in rw (room-of true l, z) (record { answer = e; area = refl })
 
-  pub stored : (r : Answer) (stores : ℕ) (now : List ℕ) → r ≡ shown (done stores) → Made (storeSome allowed (appending end (take size bytes)) area) stores now
-      → size < length area - end → (b : Bool) → b ≡ every isUnused (drop end area) → b ≡ true → Answered (appendAt end allowed (take size bytes) area) r now
-  unfolding appendAt storeSome
-  stored r stores now e D l b p q =
-      let z : every isUnused (drop end area) ≡ true = sym p ∙ q in
-      rw (room l, z) (record { answer = e ∙ ap (λ (k : ℕ). shown (done k)) (D .count); area = D .area })
+    pub stored : (r : Answer) (stores : ℕ) (now : List ℕ) → r ≡ shown (done stores) → Made (storeSome allowed (appending end (take size bytes)) area) stores now
+        → b ≡ true → Answered (appendAt end allowed (take size bytes) area) r now
+    unfolding appendAt storeSome
+    stored r stores now e D q =
+        let z : every isUnused (drop end area) ≡ true = sym free ∙ q in
+        rw (room-of true l, z) (record { answer = e ∙ ap (λ (k : ℕ). shown (done k)) (D .count); area = D .area })
 
 -- ---- the ways through `append_read`
 

@@ -1,70 +1,91 @@
--- The loop that stores a record's bytes, and each way through the function that stores a frame.
+-- Each way through the function that stores one byte of a frame, and the loop over it.
 -- Assumes nothing.
-use Prim.Native.Nat.{ℕ, suc, _+_, _≤_, _<_}
+use Prim.Native.Nat.{ℕ, zero, suc, _+_, _≤_, _<_}
 use native.Mathlib.Omega.{arith}
-use native.Mathlib.Nat.{add-zero}
-use native.Mathlib.Numerals.{add-one}
 use mathlib.Core.Path.{_≡_, refl, sym, ap, _∙_}
-use mathlib.Core.List.{List, [], _++_}
-use lib.ListN.{length, getD, take, set, length-set}
-use lib.Seq.{sets, slice, slice-empty, slice-cons, take-append-le, take-take, take-all, length-take-le}
-use Rattle.area_model.specs.Area.{afterStores, storing, flagging, appending, storeSome}
-use Rattle.area_model.proofs.Stores.{stores-append, stores-storing, storing-length, storing-take, appending-length}
+use mathlib.Core.List.{List, [], _∷_}
+use lib.ListN.{length, getD, take, drop, set, List·getD-append}
+use lib.Seq.{drop-cons, getD-at, getD-take, take-add, take-all, length-take-le}
+use Rattle.area_model.specs.Area.{finishedFlag, Store, afterStores, storing, flagging, appending, storeSome}
+use Rattle.area_model.proofs.Stores.{stores-append, stores-length, storing-length, appending-length}
 use Rattle.area.specs.Shown.{Made}
 
--- i of the first bytes of w are stored; storing the rest of them makes the whole
-pub record Storing (area₀ : List ℕ) (at : ℕ) (w : List ℕ) (count : ℕ) (area : List ℕ) (i : ℕ) : Type 0 where
-  pub few : i ≤ count
-  pub long : length area ≡ length area₀
-  pub same : sets area (at + i) (slice i count w) ≡ sets area₀ at (take count w)
+-- in the place of a store that there isn't
+abbrev noStore : Store
+noStore = record { at = 0; byte = 0 }
 
-pub begun : (area : List ℕ) (at : ℕ) (w : List ℕ) (count : ℕ) → Storing area at w count area 0
-begun area at w count = record { few = omega arith; long = refl; same = rw add-zero }
+getD-storing : (place : ℕ) (w : List ℕ) (i : ℕ) → i < length w → getD (storing place w) i noStore ≡ record { at = place + i; byte = getD w i 0 }
+unfolding storing
+getD-storing place [] i l = absurd (omega arith)
+getD-storing place (b ∷ w) zero l = ap (λ (k : ℕ). record { at = k; byte = b }) (omega arith)
+getD-storing place (b ∷ w) (suc i) l = getD-storing (suc place) w i (omega arith) ∙ ap (λ (k : ℕ). record { at = k; byte = getD w i 0 }) (omega arith)
 
-module _ (area₀ : List ℕ) (at : ℕ) (w : List ℕ) (count : ℕ) (area : List ℕ) (i : ℕ) (S : Storing area₀ at w count area i) where
-  pub one-stored : i < count → count ≤ length w → Storing area₀ at w count (set area (at + i) (getD w i 0)) (i + 1)
-  one-stored l h =
-      let next : at + (i + 1) ≡ suc (at + i) = omega arith in
-      record {
-        few = omega arith;
-        long = length-set area (at + i) (getD w i 0) ∙ S .long;
-        same = rw next (rw add-one (sym (ap (sets area (at + i)) (slice-cons i count w 0 l h)) ∙ S .same));
-      }
+-- one of the stores xs
+one-of : (area : List ℕ) (xs : List Store) (i : ℕ) (x : Store) → i < length xs → getD xs i noStore ≡ x
+    → set area (x .at) (x .byte) ≡ afterStores area (take 1 (drop i xs))
+unfolding afterStores
+one-of area xs i x l e = sym (rw (drop-cons xs i noStore l, e))
 
-  pub all-stored : count ≤ i → area ≡ sets area₀ at (take count w)
-  all-stored l =
-      let e : i ≡ count = omega (arith, S .few) in
-      let none : slice i count w ≡ [] = rw e (slice-empty count w) in
-      sym (ap (sets area (at + i)) none) ∙ S .same
+module _ (area : List ℕ) (end : ℕ) (bytes : List ℕ) (size : ℕ) (fits : size ≤ length bytes) where
+  abbrev w : List ℕ
+  w = take size bytes
 
--- ---- the ways through `store_frame`
-
-module _ (area : List ℕ) (end : ℕ) (bytes : List ℕ) (size allowed : ℕ) (fits : size ≤ length bytes) where
-  long : length (take size bytes) ≡ size
+  long : length w ≡ size
   long = length-take-le size bytes fits
 
-  pub cut-short : (now : List ℕ) → allowed ≤ size → now ≡ sets area (end + 1) (take allowed bytes)
-      → Made (storeSome allowed (appending end (take size bytes)) area) allowed now
-  unfolding storeSome appending
-  cut-short now l e =
-      let some : take allowed (storing (suc end) (take size bytes) ++ flagging end) ≡ storing (suc end) (take allowed bytes) =
-      take-append-le allowed (storing (suc end) (take size bytes)) (flagging end) (omega (arith, storing-length (suc end) (take size bytes), long))
-      ∙ storing-take allowed (suc end) (take size bytes) ∙ ap (storing (suc end)) (take-take allowed size bytes l) in
-      let count : length (storing (suc end) (take allowed bytes)) ≡ allowed = storing-length (suc end) (take allowed bytes) ∙ length-take-le allowed bytes (omega arith) in
-      record {
-        count = sym (ap length some ∙ count);
-        area = e ∙ rw add-one (sym (ap (afterStores area) some ∙ stores-storing (suc end) (take allowed bytes) area));
-      }
+  stores-count : length (appending end w) ≡ size + 1
+  stores-count = appending-length end w ∙ omega (arith, long)
 
-  pub whole-stored : (now : List ℕ) → size < allowed → now ≡ sets area (end + 1) (take size bytes)
-      → Made (storeSome allowed (appending end (take size bytes)) area) (size + 1) (set now end 0)
-  unfolding storeSome appending afterStores
-  whole-stored now l e =
-      let count : length (storing (suc end) (take size bytes) ++ flagging end) ≡ size + 1 = appending-length end (take size bytes) ∙ omega (arith, long) in
-      let all : take allowed (storing (suc end) (take size bytes) ++ flagging end) ≡ storing (suc end) (take size bytes) ++ flagging end =
-      take-all allowed (storing (suc end) (take size bytes) ++ flagging end) (omega (arith, count)) in
-      let made : now ≡ afterStores area (storing (suc end) (take size bytes)) = e ∙ rw add-one (sym (stores-storing (suc end) (take size bytes) area)) in
-      record {
-        count = sym (ap length all ∙ count);
-        area = ap (λ (a : List ℕ). set a end 0) made ∙ sym (ap (afterStores area) all ∙ stores-append (storing (suc end) (take size bytes)) (flagging end) area);
-      }
+  -- ---- the ways through `store_next`
+
+  pub byte-stored : (made : ℕ) → made < size → set area (end + 1 + made) (getD bytes made 0) ≡ afterStores area (take 1 (drop made (appending end (take size bytes))))
+  byte-stored made l =
+      let is : getD (appending end w) made noStore ≡ record { at = suc end + made; byte = getD w made 0 } =
+      unfold appending in
+      List·getD-append (storing (suc end) w) (flagging end) noStore made (omega (arith, storing-length (suc end) w, long)) ∙ getD-storing (suc end) w made (omega (arith, long)) in
+      let place : end + 1 + made ≡ suc end + made = omega arith in
+      rw (place, ← (getD-take size bytes made 0 l)) (one-of area (appending end w) made _ (omega (arith, stores-count)) is)
+
+  pub flag-stored : (made : ℕ) → made ≤ size → size ≤ made → set area end 0 ≡ afterStores area (take 1 (drop made (appending end (take size bytes))))
+  flag-stored made l m =
+      let is : getD (appending end w) made noStore ≡ record { at = end; byte = finishedFlag } =
+      unfold appending in getD-at (storing (suc end) w) (record { at = end; byte = finishedFlag }) [] noStore made (storing-length (suc end) w ∙ omega (arith, long)) in
+      one-of area (appending end w) made _ (omega (arith, stores-count)) is
+
+-- ---- the loop of `store_frame`
+
+-- after as many turns the area is as after as many of the stores xs, one for each byte of a record and one for its flag
+pub record Storing (area₀ : List ℕ) (xs : List Store) (size allowed : ℕ) (area : List ℕ) (made : ℕ) : Type 0 where
+  pub count : length xs ≡ size + 1
+  pub few : made ≤ allowed
+  pub most : made ≤ size + 1
+  pub long : length area ≡ length area₀
+  pub same : area ≡ afterStores area₀ (take made xs)
+
+pub begun : (area : List ℕ) (end : ℕ) (bytes : List ℕ) (size allowed : ℕ) → size ≤ length bytes → Storing area (appending end (take size bytes)) size allowed area 0
+unfolding afterStores
+begun area end bytes size allowed fits = record { count = stores-count area end bytes size fits; few = omega arith; most = omega arith; long = refl; same = refl }
+
+module _ (area₀ : List ℕ) (xs : List Store) (size allowed : ℕ) (area : List ℕ) (made : ℕ) (S : Storing area₀ xs size allowed area made) where
+  pub one-more : made ≤ size → made < allowed → (now : List ℕ) → now ≡ afterStores area (take 1 (drop made xs)) → Storing area₀ xs size allowed now (made + 1)
+  one-more l m now e =
+      let same : now ≡ afterStores area₀ (take (made + 1) xs) =
+      e ∙ ap (λ (a : List ℕ). afterStores a (take 1 (drop made xs))) (S .same)
+      ∙ sym (ap (afterStores area₀) (take-add made 1 xs) ∙ stores-append (take made xs) (take 1 (drop made xs)) area₀) in
+      record { count = S .count; few = omega arith; most = omega arith; long = ap length same ∙ stores-length (take (made + 1) xs) area₀; same = same }
+
+  -- no more stores are allowed, or there are no more
+  made-all : take allowed xs ≡ take made xs → Made (storeSome allowed xs area₀) made area
+  unfolding storeSome
+  made-all e = record {
+    count = sym (ap length e ∙ length-take-le made xs (omega (arith, S .most, S .count)));
+    area = S .same ∙ ap (afterStores area₀) (sym e);
+  }
+
+  pub cut-short : allowed ≤ made → Made (storeSome allowed xs area₀) made area
+  cut-short l = let e : allowed ≡ made = omega (arith, S .few) in made-all (rw e)
+
+  pub all-stored : size < made → Made (storeSome allowed xs area₀) made area
+  all-stored l =
+      let all : length xs ≤ made = omega (arith, S .count) in
+      made-all (take-all allowed xs (omega (arith, S .few)) ∙ sym (take-all made xs all))

@@ -1,13 +1,13 @@
 // Records in a lent area, stored one byte at a time, so that a cut loses no finished frame.
 ghost use mathlib.Core.Path.{_≡_};
 ghost use Prim.Native.Nat.{suc, _+_, _≤_, _<_};
+ghost use lib.Dec.{leb};
 ghost use lib.ListN.{length, take, drop};
-ghost use lib.Seq.{sets};
 ghost use Rattle.finite.specs.Lists.{every};
 ghost use Rattle.model.specs.Record.{read};
 ghost use Rattle.model.specs.Answers.{refusal};
 ghost use Rattle.answers.specs.Shown.{shown};
-ghost use Rattle.area_model.specs.Area.{isUnused, none, byReading, frameAt, found, appending, clearing, storeSome, appendAt, appendRead, append as appended, repair as repaired};
+ghost use Rattle.area_model.specs.Area.{isUnused, none, byReading, frameAt, found, afterStores, appending, clearing, storeSome, appendAt, appendRead, append as appended, repair as repaired};
 ghost use Rattle.area.specs.Shown.{frameShown, endShown, Answered, Made, Cleared};
 use answers::Answer;
 use case::Case;
@@ -121,31 +121,33 @@ fn log_fault(log: End) -> Answer
     }
 }
 
-// Stores the first bytes of a record from a place on, one at a time, front to back.
-fn store_front(area: &mut [u8], at: usize, bytes: &[u8], count: usize)
-    requires { ⌜ (count ≤ length (now bytes)) × (at + count ≤ length (now area)) ⌝ }
-    ensures { λ _. ⌜ now (area .exit) ≡ sets (now (area .entry)) at (take count (now (bytes .entry))) ⌝ }
+// Stores one byte of a frame behind the end of the log: the next of its record of so many bytes, or the flag once all of them are stored.
+fn store_next(area: &mut [u8], end: usize, bytes: &[u8], size: usize, made: usize)
+    requires { ⌜ (made ≤ size) × (size ≤ length (now bytes)) × (end + 1 + size ≤ length (now area)) ⌝ }
+    ensures { λ _. ⌜ now (area .exit) ≡ afterStores (now (area .entry)) (take 1 (drop made (appending end (take size (now (bytes .entry)))))) ⌝ }
 {
-    let mut i = 0;
-    while i < count {
-        area[at + i] = bytes[i];
-        i += 1;
+    if made < size {
+        area[end + 1 + made] = bytes[made];
+        return;
     }
+    area[end] = FINISHED;
 }
 
-// Stores a record of so many bytes behind the end of the log and then its flag, and stops after as many stores as allowed. Gives the
-// stores made.
+// Stores a frame behind the end of the log, its record of so many bytes first and its flag last, one byte at a time, and stops after as
+// many stores as allowed. Gives the stores made.
 fn store_frame(area: &mut [u8], end: usize, bytes: &[u8], size: usize, allowed: usize) -> usize
     requires { ⌜ (size ≤ length (now bytes)) × (end + 1 + size ≤ length (now area)) ⌝ }
     ensures { λ r. ⌜ Made (storeSome allowed (appending end (take size (now (bytes .entry)))) (now (area .entry))) r (now (area .exit)) ⌝ }
 {
-    if allowed <= size {
-        store_front(area, end + 1, bytes, allowed);
-        return allowed;
+    let mut made = 0;
+    while made <= size {
+        if allowed <= made {
+            return made;
+        }
+        store_next(area, end, bytes, size, made);
+        made += 1;
     }
-    store_front(area, end + 1, bytes, size);
-    area[end] = FINISHED;
-    size + 1
+    made
 }
 
 // Whether every byte from a place on is unused.
@@ -162,12 +164,20 @@ fn all_unused(area: &[u8], from: usize) -> bool
     true
 }
 
+// Whether a frame whose record has so many bytes has room behind the end of the log.
+fn has_room(area: &[u8], end: usize, size: usize) -> bool
+    requires { ⌜ end ≤ length (now area) ⌝ }
+    ensures { λ r. ⌜ r ≡ leb (end + 1 + size) (length (now (area .entry))) ⌝ }
+{
+    size < area.len() - end
+}
+
 // Appends a record of so many bytes behind the end of a log without fault: 6, 8, or 0 and the stores made.
 fn append_at(area: &mut [u8], end: usize, bytes: &[u8], size: usize, allowed: usize) -> Answer
     requires { ⌜ (size ≤ length (now bytes)) × (end ≤ length (now area)) ⌝ }
     ensures { λ r. ⌜ Answered (appendAt end allowed (take size (now (bytes .entry))) (now (area .entry))) r (now (area .exit)) ⌝ }
 {
-    if size < area.len() - end {
+    if has_room(area, end, size) {
         if all_unused(area, end) {
             let stores = store_frame(area, end, bytes, size, allowed);
             return answers::finished(stores);
@@ -219,15 +229,15 @@ fn clear(area: &mut [u8], from: usize, allowed: usize) -> usize
     ensures { λ r. ⌜ Made (storeSome allowed (clearing from (drop from (now (area .entry)))) (now (area .entry))) r (now (area .exit)) ⌝ }
 {
     let mut i = from;
-    let mut made = 0;
+    let mut stores = 0;
     while i < area.len() {
-        if allowed <= made {
-            return made;
+        if allowed <= stores {
+            return stores;
         }
-        made += clear_byte(area, i);
+        stores += clear_byte(area, i);
         i += 1;
     }
-    made
+    stores
 }
 
 // Makes everything behind the last finished frame unused, by at most so many stores: the log's own fault, or 0 and the stores made.

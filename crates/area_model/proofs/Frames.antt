@@ -147,7 +147,7 @@ split-one place s c i e f S =
     }
 
 -- by what the flag is, and what reading the record answers
-abbrev byFlag : (place : ℕ) → List ℕ → (behind : ℕ → Found) → (isEnd isFinished : Bool) → Out Case → Found
+abbrev pub byFlag : (place : ℕ) → List ℕ → (behind : ℕ → Found) → (isEnd isFinished : Bool) → Out Case → Found
 byFlag place s behind y z o = following place s behind (cond y (none noFault) (cond z (byReading place o) (none (record { number = 9; place = place }))))
 
 split-by : (j place : ℕ) (s : List ℕ) → length s ≤ j → foundBy j place s .ending .number ≡ 0 → Split place s (foundBy j place s)

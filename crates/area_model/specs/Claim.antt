@@ -1,20 +1,26 @@
 -- What is claimed of every area after any list of appends and repairs, each cut anywhere or not (02 (v)).
 -- Assumes nothing.
-use Prim.Native.Nat.{ℕ}
+use Prim.Native.Nat.{ℕ, _≤_}
 use mathlib.Core.Path.{_≡_}
+use mathlib.Core.Logic.{_⊎_}
 use mathlib.Core.List.{List, _++_}
 use lib.ListN.{length, replicate}
 use Rattle.finite.specs.Lists.{All}
 use Rattle.number.specs.Reader.{next}
 use Rattle.model.specs.Case.{Case}
 use Rattle.model.specs.Record.{read}
-use Rattle.log_model.specs.Log.{noFault}
+use Rattle.log_model.specs.Log.{Ending, noFault}
 use Rattle.area_model.specs.Area.{unused, found}
 use Rattle.area_model.specs.Changes.{Change, areaAfter, flagsStored}
 
 -- "a lent area that starts as all `FF`"
 abbrev pub blank : (size : ℕ) → List ℕ
 blank size = replicate size unused
+
+-- "the log's own faults (9, 1 to 4)", and 23 (02 (xi)), at a place within an area of so many bytes
+pub record LogFault (size : ℕ) (e : Ending) : Type 0 where
+  pub number : (e .number ≡ 9) ⊎ (((1 ≤ e .number) × (e .number ≤ 4)) ⊎ (e .number ≡ 23))
+  pub place : e .place ≤ size
 
 -- bytes that are one record and nothing behind it
 pub record OneRecord (w : List ℕ) : Type 0 where

@@ -9,7 +9,7 @@ use Rattle.model.specs.Worked.{same}
 use Rattle.model.specs.Answers.{Stored}
 use Rattle.log_model.specs.Worked.{small, lone, badName}
 use Rattle.area_model.specs.Area.{finishedFlag, Found, found}
-use Rattle.area_model.specs.Changes.{Change, appends, repairs, change, areaAfter}
+use Rattle.area_model.specs.Changes.{Change, appends, repairs, change, areaAfter, flagsStored}
 use Rattle.area_model.specs.Claim.{blank}
 
 pub data Row : Type 0 where
@@ -17,7 +17,7 @@ pub data Row : Type 0 where
   finds : (records : List (List ℕ)) (number place end : ℕ) (area : List ℕ) → Row
   -- a change of the area `from`: the answer's number, place and length, and the area afterwards
   makes : (number place stores : ℕ) (area : List ℕ) (x : Change) (from : List ℕ) → Row
-  -- the records found after a list of changes of an area that was all `FF`
+  -- the records found after a list of changes of an area that was all `FF`, which are those whose flag was stored
   keeps : (records : List (List ℕ)) (size : ℕ) (xs : List Change) → Row
 
 unfoldable pub sameLists : List (List ℕ) → List (List ℕ) → Bool
@@ -37,7 +37,7 @@ isStored s number place stores area =
 unfoldable pub holds : Row → Bool
 holds (finds records number place end area) = isFound (found area) records number place end
 holds (makes number place stores area x from) = isStored (change x from) number place stores area
-holds (keeps records size xs) = sameLists (found (areaAfter (blank size) xs) .records) records
+holds (keeps records size xs) = sameLists (found (areaAfter (blank size) xs) .records) records && sameLists (flagsStored (blank size) xs) records
 
 unfoldable pub worked : List Row → Bool
 worked [] = true

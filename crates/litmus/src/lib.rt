@@ -15,9 +15,12 @@ ghost use Rattle.classes.specs.Representative.{representativeRecord, representa
 ghost use Rattle.representatives.specs.Shown.{choiceShown};
 ghost use Rattle.log_model.specs.Pieces.{judgeLog};
 ghost use Rattle.log.specs.Shown.{answerShown};
+ghost use Rattle.area_model.specs.Area.{frameAt, append as appendArea, repair as repairArea};
+ghost use Rattle.area.specs.Shown.{frameShown};
 ghost use Rattle.litmus.specs.Shown.{caseShown, partShown, noPart, judgedPart, renumberedPart, bytesOf};
 ghost use Rattle.litmus.specs.Orders.{tooMany, rule11Answer};
 pub use answers::Answer;
+pub use area::Frame;
 use case::Case;
 pub use log::JudgedLog;
 pub use log::LogAnswer;
@@ -238,6 +241,31 @@ pub fn renumbered_name<'a>(bytes: &'a [u8], q: u64, r: u64, room: usize, at: usi
         return reader::name(bytes);
     }
     &bytes[0..0]
+}
+
+// Appends a record to the log in an area, by at most so many stores: the log's own 9, 1 to 4 or 23; the record's 1 to 4 or 23; 6 for too
+// little room; 8 where bytes behind the last finished frame are not `FF`; or 0 and the stores made, the flag's last.
+pub fn area_append(area: &mut [u8], bytes: &[u8], allowed: usize) -> Answer
+    ensures { λ r. ⌜ r ≡ shown (appendArea (now (area .entry)) (now (bytes .entry)) allowed .answer) ⌝ }
+    ensures { λ r. ⌜ now (area .exit) ≡ appendArea (now (area .entry)) (now (bytes .entry)) allowed .buffer ⌝ }
+{
+    area::append(area, bytes, allowed)
+}
+
+// Fills an area with `FF` behind its last finished frame, by at most so many stores: the log's own 9, 1 to 4 or 23; or 0 and the stores
+// made.
+pub fn area_repair(area: &mut [u8], allowed: usize) -> Answer
+    ensures { λ r. ⌜ r ≡ shown (repairArea (now (area .entry)) allowed .answer) ⌝ }
+    ensures { λ r. ⌜ now (area .exit) ≡ repairArea (now (area .entry)) allowed .buffer ⌝ }
+{
+    area::repair(area, allowed)
+}
+
+// What stands at a place of an area: a finished frame, or how the log ends. The first frame is at 0, and each next one behind a record.
+pub fn area_next(area: &[u8], at: usize) -> Frame
+    ensures { λ r. ⌜ r ≡ frameShown at (frameAt (now (area .entry)) at) ⌝ }
+{
+    area::next_frame(area, at)
 }
 
 // Whether a place is not past the end of a buffer of so many bytes, and size bytes are left from there.
@@ -468,6 +496,29 @@ pub extern "C" fn litmus_log_judge(
     ensures { λ r. ⌜ (r ≡ answerShown (judgeLog from last (now (bytes .entry)) (now (tally .entry)))) × (now (tally .exit) ≡ judgeLog from last (now (bytes .entry)) (now (tally .entry)) .tally) ⌝ }
 {
     judge_log(bytes, from, last, tally)
+}
+
+#[no_mangle]
+pub extern "C" fn litmus_area_append(area: &mut [u8], bytes: &[u8], allowed: u64) -> Answer
+    ensures { λ r. ⌜ r ≡ shown (appendArea (now (area .entry)) (now (bytes .entry)) allowed .answer) ⌝ }
+    ensures { λ r. ⌜ now (area .exit) ≡ appendArea (now (area .entry)) (now (bytes .entry)) allowed .buffer ⌝ }
+{
+    area_append(area, bytes, allowed as usize)
+}
+
+#[no_mangle]
+pub extern "C" fn litmus_area_repair(area: &mut [u8], allowed: u64) -> Answer
+    ensures { λ r. ⌜ r ≡ shown (repairArea (now (area .entry)) allowed .answer) ⌝ }
+    ensures { λ r. ⌜ now (area .exit) ≡ repairArea (now (area .entry)) allowed .buffer ⌝ }
+{
+    area_repair(area, allowed as usize)
+}
+
+#[no_mangle]
+pub extern "C" fn litmus_area_next(area: &[u8], at: u64) -> Frame
+    ensures { λ r. ⌜ r ≡ frameShown at (frameAt (now (area .entry)) at) ⌝ }
+{
+    area_next(area, at as usize)
 }
 
 #[no_mangle]

@@ -12,10 +12,14 @@ pub const RANGE: u32 = 3;
 pub const MISPLACED: u32 = 4;
 /// Not a permutation of the case's labels.
 pub const PERMUTATION: u32 = 5;
-/// Too little room in the buffer.
+/// Too little room in the buffer or the area.
 pub const ROOM: u32 = 6;
 /// No such model.
 pub const MODEL: u32 = 7;
+/// A byte behind the last finished frame is not `FF`.
+pub const UNREPAIRED: u32 = 8;
+/// A frame's flag is neither `00` nor `FF`.
+pub const FLAG: u32 = 9;
 /// A byte of the name is not printable.
 pub const UNPRINTABLE: u32 = 23;
 
@@ -32,7 +36,7 @@ pub struct Answer {
 }
 
 impl Answer {
-    /// Done, with the record's length.
+    /// Done, with the record's length, or how many stores were made.
     pub fn done(length: usize) -> Answer {
         Answer {
             length,
@@ -49,7 +53,7 @@ impl Answer {
     }
 }
 
-/// A refusal of the record, or of a case (then the place is 0).
+/// A refusal of the record, or of a case or a call (then the place is 0).
 #[derive(Clone, Copy, Debug, PartialEq, Eq)]
 pub struct Refusal {
     pub number: u32,

@@ -5,6 +5,7 @@
 //! proved, and nothing here knows the proved library.
 
 pub mod answer;
+pub mod area;
 pub mod case;
 pub mod generate;
 pub mod judge;

@@ -44,7 +44,8 @@ pub struct Case {
     written: [[u8; EVENTS]; ADDRESSES],
     stores: [usize; ADDRESSES],
     after: [Rows; THREADS],
-    length: usize,
+    /// How many bytes the record takes.
+    pub length: usize,
 }
 
 impl Case {

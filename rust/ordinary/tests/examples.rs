@@ -1,8 +1,10 @@
 //! The files in `examples/` are what `record` makes of their texts, and answer what the table says.
 
+use ordinary::answer::{ROOM, UNREPAIRED};
+use ordinary::area::{append, repair};
 use ordinary::judge::{judge, PPCS, PPCW};
 use ordinary::log::log;
-use ordinary::{read, text, write};
+use ordinary::{read, text, write, Answer};
 use std::fs;
 use std::path::{Path, PathBuf};
 
@@ -147,4 +149,24 @@ fn the_annotated_text_is_the_example() {
     let indented = |line: &str| format!("    {line}");
     let text: Vec<String> = text_file("dekker.txt").lines().map(indented).collect();
     assert!(guide.contains(&text.join("\n")));
+}
+
+/// The area that the guide shows, and what it says of it.
+#[test]
+fn the_annotated_area() {
+    let guide = text_file("../docs/FORMAT.md");
+    let (_, section) = guide.split_once("## An area").expect("a section");
+    let lines = section.lines().filter_map(|line| line.strip_prefix("    "));
+    let byte = |word| u8::from_str_radix(word, 16).expect("a byte");
+    let mut area: Vec<u8> = lines.flat_map(str::split_whitespace).map(byte).collect();
+    let (small, seven) = (file("small.litmus"), [1, 1, 1, 0, 0, 0, 0]);
+    assert_eq!((area.len(), &area[1..20]), (30, &small[..]));
+    for (answer, expected) in [
+        (append(&mut area, &small, 30), Answer::refused(ROOM)),
+        (append(&mut area, &seven, 30), Answer::refused(UNREPAIRED)),
+        (repair(&mut area, 30), Answer::done(4)),
+        (append(&mut area, &seven, 30), Answer::done(8)),
+    ] {
+        assert_eq!(answer, expected);
+    }
 }

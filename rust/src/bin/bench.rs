@@ -1,10 +1,14 @@
 //! Times the library beside an ordinary optimised reader and judge, its two tests of rule 11 beside
-//! each other, a log and the program for logs beside the records one by one, and representatives
-//! beside all renumberings, on the same input in one run.
+//! each other, a log and the program for logs beside the records one by one, areas beside an
+//! ordinary implementation's, and representatives beside all renumberings, on the same input in one
+//! run.
 
+#[path = "bench/areas.rs"]
+mod areas;
 #[path = "record/built.rs"]
 mod built;
 
+use areas::{BLANK, FINISHED};
 use built::built;
 use litmus::{Log, Rows, RECORD_BYTES, RULES};
 use ordinary::judge::PPCS;
@@ -40,6 +44,7 @@ fn main() {
         for edition in EDITIONS {
             let records = records(edition, count);
             log("the same", &records);
+            area("the same", &records);
         }
         orders(count);
     }
@@ -179,6 +184,62 @@ fn log(which: &str, records: &[Vec<u8>]) {
         judging.print(heads, |time| each(time, INPUTS, "a record"), 3);
     }
     program(&log[0]);
+}
+
+/// Records in an area, walked; then each appended to an area that it fills, and the same cut before
+/// the flag and repaired; beside the ordinary implementation.
+fn area(which: &str, records: &[Vec<u8>]) {
+    println!("{which} {INPUTS} records in an area\n");
+    let unit = |time| each(time, INPUTS, "a record");
+    let frames = records
+        .iter()
+        .map(|record| [&[FINISHED], &record[..]].concat());
+    let area = [frames.collect::<Vec<Vec<u8>>>().concat()];
+    let walking = compare(
+        &area,
+        |area| u64::from(litmus::records(area).count() != INPUTS),
+        |area| u64::from(areas::walked(area) != Some((INPUTS, area.len()))),
+    );
+    walking.print(["walking              ours", ORDINARY], unit, 2);
+
+    let (mut ours, mut theirs) = (vec![BLANK; RECORD_BYTES + 1], vec![BLANK; RECORD_BYTES + 1]);
+    let appending = compare(
+        records,
+        |record| appended(&mut ours[..=record.len()], record),
+        |record| appended_ordinarily(&mut theirs[..=record.len()], record),
+    );
+    appending.print(["an append            ours", ORDINARY], unit, 2);
+    let repairing = compare(
+        records,
+        |record| repaired(&mut ours[..=record.len()], record),
+        |record| repaired_ordinarily(&mut theirs[..=record.len()], record),
+    );
+    let heads = ["one cut and repaired ours", ORDINARY];
+    repairing.print(heads, unit, 2);
+}
+
+/// 0 where the record is appended to a blank area, which is blank again afterwards.
+fn appended(area: &mut [u8], record: &[u8]) -> u64 {
+    let answer = litmus::area_append_raw(area, record, u64::MAX);
+    area.fill(BLANK);
+    u64::from(answer.number)
+}
+
+fn appended_ordinarily(area: &mut [u8], record: &[u8]) -> u64 {
+    let made = areas::append(area, record, usize::MAX);
+    area.fill(BLANK);
+    u64::from(made != Some(area.len()))
+}
+
+/// 0 where an append is cut before the flag, and what it left cleared.
+fn repaired(area: &mut [u8], record: &[u8]) -> u64 {
+    let made = litmus::area_append_raw(area, record, record.len() as u64);
+    u64::from(made.number) + u64::from(litmus::area_repair_raw(area, u64::MAX).number)
+}
+
+fn repaired_ordinarily(area: &mut [u8], record: &[u8]) -> u64 {
+    let made = areas::append(area, record, record.len());
+    u64::from(made != Some(record.len())) + u64::from(areas::repair(area).is_none())
 }
 
 /// The program `judge_log` on a file, beside judging each record where it lies in a slice.

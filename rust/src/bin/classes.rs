@@ -1,11 +1,15 @@
 //! Groups records that are one case but for the labels of threads and addresses.
 
-use litmus::{name, representative};
+#[path = "shared/files.rs"]
+mod files;
+
+use files::{name_of, put, shown, status, told, wrong_call, BAD_FILE};
+use litmus::representative;
 use std::collections::BTreeMap;
 use std::env;
 use std::ffi::{OsStr, OsString};
 use std::fs;
-use std::io::{self, Read, Write};
+use std::io::{self, Read};
 use std::os::unix::ffi::OsStrExt;
 use std::process::ExitCode;
 
@@ -35,10 +39,6 @@ The exit status is 0; 1 if a file can't be read as a record, and the others are
 still grouped; 2 if it is called in another way.
 ";
 
-/// The exit status where a file can't be read or written, and of a wrong call.
-const BAD_FILE: u8 = 1;
-const BAD_USAGE: u8 = 2;
-
 fn main() -> ExitCode {
     let words: Vec<OsString> = env::args_os().skip(1).collect();
     let words: Vec<&OsStr> = words.iter().map(OsString::as_os_str).collect();
@@ -50,24 +50,9 @@ fn main() -> ExitCode {
         }
         [word, source] if word == "--write" => write(source, None),
         [word, source, target] if word == "--write" => write(source, Some(target)),
-        [] => wrong_call(),
-        _ if words.iter().any(option) => wrong_call(),
+        [] => wrong_call(USAGE),
+        _ if words.iter().any(option) => wrong_call(USAGE),
         _ => group(&words),
-    }
-}
-
-fn wrong_call() -> ExitCode {
-    eprintln!("{}", USAGE.trim());
-    ExitCode::from(BAD_USAGE)
-}
-
-fn status(outcome: Result<(), String>) -> ExitCode {
-    match outcome {
-        Ok(()) => ExitCode::SUCCESS,
-        Err(message) => {
-            eprintln!("{message}");
-            ExitCode::from(BAD_FILE)
-        }
     }
 }
 
@@ -107,28 +92,18 @@ fn group(files: &[&OsStr]) -> ExitCode {
     }
 }
 
-/// Writes a file, or to standard output if there is none.
-fn put(bytes: &[u8], target: Option<&OsStr>) -> Result<(), String> {
-    let written = match target {
-        Some(file) => fs::write(file, bytes),
-        None => io::stdout().write_all(bytes),
-    };
-    let place = target.map_or("standard output".to_string(), shown);
-    written.map_err(|fault| format!("{place}: {fault}"))
-}
-
 fn write(source: &OsStr, target: Option<&OsStr>) -> ExitCode {
     status(least(source).and_then(|record| put(&record, target)))
 }
 
 /// The representative of a file's record.
 fn least(file: &OsStr) -> Result<Vec<u8>, String> {
-    let place = || match file == "-" {
+    let place = match file == "-" {
         true => "standard input".to_string(),
         false => shown(file),
     };
-    let bytes = bytes_of(file).map_err(|fault| format!("{}: {fault}", place()))?;
-    representative(&bytes).map_err(|refusal| format!("{}: {refusal}", place()))
+    let bytes = told(&place, bytes_of(file))?;
+    told(&place, representative(&bytes))
 }
 
 fn bytes_of(file: &OsStr) -> io::Result<Vec<u8>> {
@@ -138,22 +113,4 @@ fn bytes_of(file: &OsStr) -> io::Result<Vec<u8>> {
     let mut bytes = Vec::new();
     io::stdin().read_to_end(&mut bytes)?;
     Ok(bytes)
-}
-
-/// All records of a class have it, and all its bytes are printable.
-fn name_of(record: &[u8]) -> String {
-    match name(record) {
-        b"" => "(no name)".to_string(),
-        bytes => String::from_utf8_lossy(bytes).into_owned(),
-    }
-}
-
-/// A file's name, so that none of its bytes upsets a terminal and a space ends it.
-fn shown(file: &OsStr) -> String {
-    let byte = |&byte: &u8| match byte {
-        b'\\' => "\\\\".to_string(),
-        b'!'..=b'~' => char::from(byte).to_string(),
-        _ => format!("\\x{byte:02x}"),
-    };
-    file.as_bytes().iter().map(byte).collect()
 }

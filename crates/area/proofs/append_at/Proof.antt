@@ -1,6 +1,6 @@
 -- `area::append_at` meets its contract. Assumes nothing.
 use borrow.Author.Needs.{needs}
-use Rattle.area.proofs.Appending.{no-room, unfinished, stored}
+use Rattle.area.proofs.Appending.{room-for, no-room, unfinished, stored}
 use Rattle.area.proofs.append_at.Statement.{statement}
 use Rattle.area.proofs.append_at.Tie as tie
 
@@ -8,9 +8,9 @@ pub append-at-spec : {M : Type 1} → statement M
 append-at-spec =
     tie.close
     (tie.spec
-    (λ c. search needs)
     (λ c κs. search needs)
     (λ c κs. search needs)
+    (λ c κs. search room-for)
     (λ c κs. search needs)
     (λ c. search needs)
     (λ c. search stored)
@@ -18,4 +18,5 @@ append-at-spec =
     (λ c. search needs)
     (λ c. search unfinished)
     (λ c κs. search needs)
+    (λ c. search needs)
     (λ c. search no-room))

@@ -8,10 +8,10 @@ use Rattle.area.proofs.clear.Statement.{statement}
 use Rattle.area.proofs.clear.Tie as tie
 
 abbrev Inv-loop : tie.InvT-loop
-Inv-loop area₀ from allowed i₀ made₀ area i made = Clearing area₀ from allowed area i made
+Inv-loop area₀ from allowed i₀ stores₀ area i stores = Clearing area₀ from allowed area i stores
 
 abbrev μ-loop : tie.MeasureT-loop
-μ-loop area₀ from allowed i₀ made₀ area i made = length area₀ - i
+μ-loop area₀ from allowed i₀ stores₀ area i stores = length area₀ - i
 
 pub clear-spec : {M : Type 1} → statement M
 clear-spec =
