@@ -290,7 +290,8 @@ litmus_frame litmus_area_next(const uint8_t *area, size_t size, uint64_t at);
 
 /*
  * Appends the record, without the bytes behind it: stores its bytes front to back, and the flag
- * last. Cut before the flag, the log is as it was.
+ * last. It is found afterwards exactly if the flag was stored, which is if `length` is one more than
+ * the record has bytes; cut before that, the log is as it was.
  *
  * Checked in this order: the log (9, 1 to 4, 23), the record (1 to 4, 23), room for the frame (6),
  * and whether every byte behind the last finished frame is FF (8), where litmus_area_repair helps.

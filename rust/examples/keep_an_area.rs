@@ -19,7 +19,7 @@ fn main() -> Result<(), Box<dyn Error>> {
     if files.is_empty() {
         return Err("usage: keep_an_area FILE ..".into());
     }
-    let mut bytes = vec![0xFF; 65_536];
+    let mut bytes = vec![Area::BLANK; 65_536];
     let mut area = Area::new(&mut bytes);
     for file in files {
         let record = fs::read(file)?;

@@ -42,7 +42,7 @@ impl From<Frame> for Refusal {
 ///
 /// // One thread stores 1 to an address and loads 1 from it.
 /// let record = [1, 1, 1, 0, 2, 1, 0, 0, 1, 0, 0, 0, 1, 0, 1, 0, 1, 1, 97];
-/// let mut bytes = [0xFF; 64];
+/// let mut bytes = [Area::BLANK; 64];
 /// let mut area = Area::new(&mut bytes);
 /// assert_eq!(area.append(&record), Ok(20));
 ///
@@ -67,7 +67,10 @@ pub struct Area<'a> {
 }
 
 impl<'a> Area<'a> {
-    /// Bytes that are all `FF`, or that are an area already.
+    /// What every byte of an area is at first.
+    pub const BLANK: u8 = 0xFF;
+
+    /// Bytes that are all blank, or that are an area already.
     pub fn new(bytes: &'a mut [u8]) -> Area<'a> {
         Area { bytes }
     }

@@ -5,6 +5,7 @@
 mod compile;
 
 use compile::{compiled, temporary};
+use ordinary::area::BLANK;
 use ordinary::generate::short_records;
 use ordinary::random::Random;
 use std::fs;
@@ -14,7 +15,6 @@ use std::process::Command;
 
 const SIGKILL: i32 = 9;
 const SHARED: &[&str] = &["cc", "-std=c99", "-shared", "-fPIC"];
-const BLANK: u8 = 0xff;
 
 /// A record with bytes of FF: an initial value has them.
 const GREATEST_VALUE: [u8; 11] = [1, 1, 1, 0xff, 0xff, 0xff, 0xff, 0x0f, 0, 0, 0];

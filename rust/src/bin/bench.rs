@@ -8,9 +8,9 @@ mod areas;
 #[path = "record/built.rs"]
 mod built;
 
-use areas::{BLANK, FINISHED};
 use built::built;
 use litmus::{Log, Rows, RECORD_BYTES, RULES};
+use ordinary::area::{BLANK, FINISHED};
 use ordinary::judge::PPCS;
 use ordinary::limits::{EDITIONS, EVENTS, NAME, PRINTABLE, THREADS};
 use ordinary::permutation::COUNT;

@@ -1,11 +1,9 @@
 //! What a file holds of an area, found without the library.
 
+use ordinary::area::BLANK;
 use ordinary::read::read;
 use std::fs;
 use std::path::Path;
-
-/// A byte that nothing was stored to.
-pub const BLANK: u8 = 0xff;
 
 /// The records of finished frames, and the bytes behind these.
 pub struct Found {

@@ -1,7 +1,8 @@
 //! An area in a file, beside the records that it is to hold.
 
-use crate::found::{found, Found, BLANK};
+use crate::found::{found, Found};
 use crate::pace::Ending;
+use ordinary::area::BLANK;
 use ordinary::generate::{any_case, full, greatest};
 use ordinary::limits::{EDITIONS, EVENTS};
 use ordinary::random::Random;

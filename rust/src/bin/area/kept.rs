@@ -1,14 +1,11 @@
 //! An area that a file keeps.
 
-use litmus::{area_append_raw, area_repair_raw, records, Answer, Refusal};
+use litmus::{area_append_raw, area_repair_raw, records, Answer, Area, Refusal};
 use std::error::Error;
 use std::fs::{self, File};
 use std::io::{self, Read};
 use std::os::unix::fs::FileExt;
 use std::path::Path;
-
-/// A byte that nothing was stored to.
-pub const BLANK: u8 = 0xff;
 
 /// All stores are allowed.
 const ALL: u64 = u64::MAX;
@@ -39,7 +36,7 @@ pub fn walk(area: &[u8], mut take: impl FnMut(usize, &[u8])) -> Result<usize, Re
 /// Makes a file, which must not be there, with as many blank bytes.
 pub fn create(path: &Path, size: u64) -> io::Result<()> {
     let mut file = File::create_new(path)?;
-    let made = io::copy(&mut io::repeat(BLANK).take(size), &mut file)
+    let made = io::copy(&mut io::repeat(Area::BLANK).take(size), &mut file)
         .and_then(|_| file.sync_all())
         .and_then(|()| sync_folder(path));
     if made.is_err() {

@@ -7,7 +7,8 @@ mod kept;
 
 use files::{name_of, put, shown, status, told, wrong_call};
 use input::Input;
-use kept::{create, walk, Kept, BLANK};
+use kept::{create, walk, Kept};
+use litmus::Area;
 use std::env;
 use std::error::Error;
 use std::ffi::{OsStr, OsString};
@@ -139,7 +140,7 @@ fn list(file: &OsStr) -> Result<(), String> {
 fn ending(area: &[u8], end: usize) -> String {
     let free = &area[end..];
     let line = format!("end at byte {end}: {} bytes free", free.len());
-    match free.iter().filter(|&&byte| byte != BLANK).count() {
+    match free.iter().filter(|&&byte| byte != Area::BLANK).count() {
         0 => line + "\n",
         count => format!("{line}, {count} of them not FF: 'area repair' clears these\n"),
     }

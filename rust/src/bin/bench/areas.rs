@@ -1,9 +1,7 @@
 //! Areas by an ordinary implementation: slices are copied and filled as a whole.
 
+use ordinary::area::{BLANK, FINISHED};
 use ordinary::rows;
-
-pub const FINISHED: u8 = 0x00;
-pub const BLANK: u8 = 0xff;
 
 /// How many frames are finished, and where the last of them ends; None where the log has a fault.
 pub fn walked(area: &[u8]) -> Option<(usize, usize)> {
