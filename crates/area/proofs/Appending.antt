@@ -11,20 +11,18 @@ use lib.ListN.{length, getD, take, drop, drop-of-length-le}
 use lib.Seq.{drop-cons, length-take-le}
 use borrow.Author.Tests.{eq-eqb, ne-eqb, le-leb, lt-leb, leb-true, ltb-true, ltb-false}
 use Rattle.finite.specs.Lists.{every}
-use Rattle.number.specs.Reader.{Out, stop, next}
-use Rattle.model.specs.Case.{Case}
 use Rattle.model.specs.Record.{read}
 use Rattle.model.specs.Answers.{refusal, done}
 use Rattle.answers.specs.declared.Answer.{Answer}
 use Rattle.answers.specs.Shown.{shown}
-use Rattle.laws.proofs.ExtentCase.{accepted, refusal-least}
+use Rattle.laws.proofs.ExtentCase.{accepted}
 use Rattle.reader.specs.declared.Reading.{Reading}
 use Rattle.reader.specs.Answers.{readingOf}
 use Rattle.reader.proofs.Found.{missed}
 use Rattle.area_model.specs.Area.{unused, isUnused, found, appending, storeSome, appendAt, appendRead, append}
-use Rattle.area_model.proofs.Survival.{end-within}
 use Rattle.area.specs.declared.End.{End}
 use Rattle.area.specs.Shown.{endShown, Answered, Made}
+use Rattle.area.proofs.Told.{was-read, end-is, faultless, faulty}
 
 -- ---- the loop of `all_unused`
 
@@ -76,53 +74,24 @@ module _ (area : List ℕ) (end : ℕ) (bytes : List ℕ) (size allowed : ℕ) (
 -- ---- the ways through `append_read`
 
 module _ (bytes : List ℕ) (r : Reading) (e : r ≡ readingOf (read bytes)) where
-  -- the record that was read
-  record Read : Type 0 where
-    case : Case
-    is-read : read bytes ≡ next case (r .length)
-
-  was-read : r .number ≡ 0 → Read
-  was-read z = go (read bytes) refl e
-    where
-      go : (o : Out Case) → read bytes ≡ o → r ≡ readingOf o → Read
-      go (stop x p) g h =
-          let same : r .number ≡ x = ap (λ (q : Reading). q .number) h ∙ (unfold readingOf in refl) in
-          absurd (omega (arith, refusal-least bytes x p g))
-      go (next c i) g h =
-          let same : r .length ≡ i = ap (λ (q : Reading). q .length) h ∙ (unfold readingOf in refl) in
-          record { case = c; is-read = g ∙ ap (next c) (sym same) }
-
   pub record-within : r .number ≡ 0 → r .length ≤ length bytes
-  record-within z = let R = was-read z in accepted bytes (R .case) (r .length) (R .is-read) .inside
+  record-within z = let R = was-read bytes r e z in accepted bytes (R .case) (r .length) (R .is-read) .inside
 
   module _ (area : List ℕ) (end allowed : ℕ) where
     pub record-appended : r .number ≡ 0 → (a : Answer) (now : List ℕ) → Answered (appendAt end allowed (take (r .length) bytes) area) a now
         → Answered (appendRead end allowed bytes area (read bytes)) a now
-    record-appended z a now D = rw (was-read z .is-read) D
+    record-appended z a now D = rw (was-read bytes r e z .is-read) D
 
     pub record-refused : (r .number ≡ 0 → ⊥) → (a : Answer) → a ≡ shown (refusal (r .number) (r .place)) → Answered (appendRead end allowed bytes area (read bytes)) a area
     record-refused n a h = rw (missed bytes r e n) (record { answer = h; area = refl })
 
 -- ---- the ways through `append`
 
-module _ (area : List ℕ) (l : End) (e : l ≡ endShown (found area)) where
-  pub number-is : l .number ≡ found area .ending .number
-  number-is = ap (λ (x : End). x .number) e
+module _ (area : List ℕ) (l : End) (e : l ≡ endShown (found area)) (bytes : List ℕ) (allowed : ℕ) where
+  pub appended : l .number ≡ 0 → (r : Answer) (now : List ℕ) → Answered (appendRead (l .end) allowed bytes area (read bytes)) r now → Answered (append area bytes allowed) r now
+  unfolding append
+  appended z r now D = rw (faultless area l e z (appendRead (found area .end) allowed bytes area (read bytes)), ← (end-is area l e)) D
 
-  pub place-is : l .place ≡ found area .ending .place
-  place-is = ap (λ (x : End). x .place) e
-
-  pub end-is : l .end ≡ found area .end
-  end-is = ap (λ (x : End). x .end) e
-
-  pub end-inside : l .number ≡ 0 → l .end ≤ length area
-  end-inside z = omega (arith, end-is, end-within area (sym number-is ∙ z))
-
-  module _ (bytes : List ℕ) (allowed : ℕ) where
-    pub appended : l .number ≡ 0 → (r : Answer) (now : List ℕ) → Answered (appendRead (l .end) allowed bytes area (read bytes)) r now → Answered (append area bytes allowed) r now
-    unfolding append
-    appended z r now D = let sound : found area .ending .number ≡ 0 = sym number-is ∙ z in rw (sound, ← end-is) D
-
-    pub log-faulty : (l .number ≡ 0 → ⊥) → (r : Answer) → r ≡ shown (refusal (l .number) (l .place)) → Answered (append area bytes allowed) r area
-    unfolding append
-    log-faulty n r h = rw (ne-eqb (found area .ending .number) 0 (λ z. n (number-is ∙ z)), ← number-is, ← place-is) (record { answer = h; area = refl })
+  pub not-appended : (l .number ≡ 0 → ⊥) → (r : Answer) → r ≡ shown (refusal (l .number) (l .place)) → Answered (append area bytes allowed) r area
+  unfolding append
+  not-appended n r h = faulty area l e n r h (appendRead (found area .end) allowed bytes area (read bytes))

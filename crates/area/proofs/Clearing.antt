@@ -13,11 +13,11 @@ use Rattle.finite.specs.Tests.{tick}
 use Rattle.model.specs.Answers.{refusal, done}
 use Rattle.answers.specs.declared.Answer.{Answer}
 use Rattle.answers.specs.Shown.{shown}
-use Rattle.area_model.specs.Area.{unused, isUnused, found, Store, afterStores, clearing, storeSome, repair}
+use Rattle.area_model.specs.Area.{unused, isUnused, found, Store, afterStores, clearing, storeSome, repairing, repair}
 use Rattle.area_model.proofs.Stores.{stores-one}
 use Rattle.area.specs.declared.End.{End}
 use Rattle.area.specs.Shown.{endShown, Answered, Made, Cleared}
-use Rattle.area.proofs.Appending.{number-is, place-is, end-is}
+use Rattle.area.proofs.Told.{end-is, faultless, faulty}
 
 -- ---- the ways through `clear_byte`
 
@@ -104,10 +104,8 @@ module _ (area : List ℕ) (l : End) (e : l ≡ endShown (found area)) (allowed 
       → Answered (repair area allowed) r now
   unfolding repair storeSome
   repaired z r stores now h D =
-      let sound : found area .ending .number ≡ 0 = sym (number-is area l e) ∙ z in
-      rw (sound, ← (end-is area l e)) (record { answer = h ∙ ap (λ (k : ℕ). shown (done k)) (D .count); area = D .area })
+      rw (faultless area l e z (storeSome allowed (repairing area) area), ← (end-is area l e)) (record { answer = h ∙ ap (λ (k : ℕ). shown (done k)) (D .count); area = D .area })
 
-  pub log-faulty : (l .number ≡ 0 → ⊥) → (r : Answer) → r ≡ shown (refusal (l .number) (l .place)) → Answered (repair area allowed) r area
+  pub not-repaired : (l .number ≡ 0 → ⊥) → (r : Answer) → r ≡ shown (refusal (l .number) (l .place)) → Answered (repair area allowed) r area
   unfolding repair
-  log-faulty n r h =
-      rw (ne-eqb (found area .ending .number) 0 (λ z. n (number-is area l e ∙ z)), ← (number-is area l e), ← (place-is area l e)) (record { answer = h; area = refl })
+  not-repaired n r h = faulty area l e n r h (storeSome allowed (repairing area) area)

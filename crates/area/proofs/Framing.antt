@@ -8,13 +8,12 @@ use mathlib.Core.Bool.{true, false, true≢false}
 use mathlib.Core.List.{List, [], _∷_}
 use lib.ListN.{length, getD, take, drop, length-drop, drop-of-length-le}
 use lib.Seq.{drop-cons, take-all}
-use Rattle.number.specs.Reader.{Out, stop, next}
-use Rattle.model.specs.Case.{Case}
+use Rattle.number.specs.Reader.{stop}
 use Rattle.model.specs.Record.{read}
 use Rattle.finite.proofs.All.{all-drop}
 use Rattle.laws.proofs.Exact.{refused-within}
 use Rattle.laws.proofs.ExactCase.{refused}
-use Rattle.laws.proofs.ExtentCase.{Accepted, accepted, refusal-least}
+use Rattle.laws.proofs.ExtentCase.{Accepted, accepted}
 use Rattle.reader.specs.declared.Reading.{Reading}
 use Rattle.reader.specs.Answers.{readingOf}
 use Rattle.reader.proofs.Bytes.{Octets, slice-bytes}
@@ -24,6 +23,7 @@ use Rattle.area_model.proofs.Frames.{frame-over, frame-read, frame-bad, frame-r
 use Rattle.area.specs.declared.Frame.{Frame as Given}
 use Rattle.area.specs.declared.End.{End}
 use Rattle.area.specs.Shown.{frameShown, endShown}
+use Rattle.area.proofs.Told.{was-read}
 
 -- ---- the ways through `finished_frame`
 
@@ -34,17 +34,8 @@ module _ (s : List ℕ) (at : ℕ) (inside : at < length s) (r : Reading) (e : r
   is-reading : r ≡ readingOf (read (drop (suc at) s))
   is-reading = e ∙ ap (λ (t : List ℕ). readingOf (read t)) part-is
 
-  pub was-read : r .number ≡ 0 → _≡_ {A = Given} (record { number = 0; ended = false; place = 0; at = at + 1; length = r .length }) (frameShown at (byReading at (read (drop (suc at) s))))
-  was-read z = go (read (drop (suc at) s)) refl is-reading
-    where
-      go : (o : Out Case) → read (drop (suc at) s) ≡ o → r ≡ readingOf o
-          → _≡_ {A = Given} (record { number = 0; ended = false; place = 0; at = at + 1; length = r .length }) (frameShown at (byReading at o))
-      go (stop x p) g h =
-          let same : r .number ≡ x = ap (λ (q : Reading). q .number) h ∙ (unfold readingOf in refl) in
-          absurd (omega (arith, refusal-least (drop (suc at) s) x p g))
-      go (next c i) g h =
-          let same : r .length ≡ i = ap (λ (q : Reading). q .length) h ∙ (unfold readingOf in refl) in
-          rw same
+  pub was-finished : r .number ≡ 0 → _≡_ {A = Given} (record { number = 0; ended = false; place = 0; at = at + 1; length = r .length }) (frameShown at (byReading at (read (drop (suc at) s))))
+  was-finished z = rw (was-read (drop (suc at) s) r is-reading z .is-read)
 
   was-stopped : (r .number ≡ 0 → ⊥) → read (drop (suc at) s) ≡ stop (r .number) (r .place)
   was-stopped n = missed (drop (suc at) s) r is-reading n

@@ -1,3 +1,4 @@
+pub mod Told
 pub mod Framing
 pub mod Storing
 pub mod Appending

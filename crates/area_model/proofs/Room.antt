@@ -21,7 +21,7 @@ use Rattle.area_model.specs.Area.{isUnused, found, Store, afterStores, a
 use Rattle.area_model.specs.Claim.{blank}
 use Rattle.area_model.proofs.Frames.{Split, split}
 use Rattle.area_model.proofs.Stores.{stores-clearing}
-use Rattle.area_model.proofs.Survival.{Faultless, front-length, rest-is, repair-is, repair-found, step-repair}
+use Rattle.area_model.proofs.Survival.{Faultless, front-length, rest-is, repair-is, repair-stays, step-repair}
 
 pub blank-unused : (n : ℕ) → every isUnused (blank n) ≡ true
 unfolding every
@@ -65,11 +65,11 @@ module _ (area : List ℕ) (sound : Faultless area) (n : ℕ) (whole : length (r
       → append (repair area n .buffer) bytes m
       ≡ cond (leb (end + 1 + length (take i bytes)) (length area)) (storeSome m (appending end (take i bytes)) (repair area n .buffer)) (refuse 6 0 (repair area n .buffer))
   unfolding append appendAt
-  room-again bytes c i m e = rw (repair-found area sound n, sound, e, step-repair area sound n .long, free)
+  room-again bytes c i m e = rw (repair-stays area sound n, sound, e, step-repair area sound n .long, free)
 
   refused-is : (bytes : List ℕ) (m x p : ℕ) → read bytes ≡ stop x p → append (repair area n .buffer) bytes m .answer .number ≡ x
   unfolding append
-  refused-is bytes m x p e = rw (repair-found area sound n, sound, e)
+  refused-is bytes m x p e = rw (repair-stays area sound n, sound, e)
 
   -- whatever bytes are to be appended
   pub not-unfinished : (bytes : List ℕ) → Bytes bytes → (m : ℕ) → append (repair area n .buffer) bytes m .answer .number ≡ 8 → ⊥

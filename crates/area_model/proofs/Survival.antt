@@ -45,6 +45,19 @@ unused-over (b ∷ s) h = eqb-true b unused (and-l (isUnused b) (every isUnused 
 stores-made : (end n : ℕ) (w : List ℕ) → length (take n (appending end w)) ≡ min n (suc (length w))
 stores-made end n w = length-take n (appending end w) ∙ ap (min n) (appending-length end w)
 
+-- all earlier records are found, and the new ones; the log ends as before, and the area has as many bytes
+pub record Step (area : List ℕ) (s : Stored) (new : List (List ℕ)) : Type 0 where
+  pub records : found (s .buffer) .records ≡ found area .records ++ new
+  pub ending : found (s .buffer) .ending ≡ found area .ending
+  pub long : length (s .buffer) ≡ length area
+
+pub step-same : (area : List ℕ) (s : Stored) → found (s .buffer) ≡ found area → length (s .buffer) ≡ length area → Step area s []
+step-same area s e l = record {
+  records = ap (λ (f : Found). f .records) e ∙ sym (append-nil (found area .records));
+  ending = ap (λ (f : Found). f .ending) e;
+  long = l;
+}
+
 module _ (area : List ℕ) (sound : Faultless area) where
   abbrev S : Split 0 area (found area)
   S = split area sound
@@ -105,10 +118,10 @@ module _ (area : List ℕ) (sound : Faultless area) where
   above-repair [] o = tt
   above-repair (b ∷ r) o = rw (eq-eqb b unused o) (above-clearing (suc end) (suc end) r (le-refl (suc end)))
 
-  -- 02 (v): a repair "may be cut .., losing no finished frame"
-  pub repair-found : (n : ℕ) → found (repair area n .buffer) ≡ found area
+  -- stores of a repair leave what is found
+  pub repair-stays : (n : ℕ) → found (repair area n .buffer) ≡ found area
   unfolding storeSome
-  repair-found n =
+  repair-stays n =
       ap (λ (s : Stored). found (s .buffer)) (repair-is n)
       ∙ stays (take n (repairing area)) (above-take (suc end) n (repairing area) (rw rest-is (above-repair (S .rest) (S .over))))
 
@@ -168,21 +181,8 @@ module _ (area : List ℕ) (sound : Faultless area) where
 
   -- ---- one change
 
-  -- all earlier records are found, and the new ones; the area has as many bytes as before
-  pub record Step (s : Stored) (new : List (List ℕ)) : Type 0 where
-    pub records : found (s .buffer) .records ≡ found area .records ++ new
-    pub ending : found (s .buffer) .ending ≡ noFault
-    pub long : length (s .buffer) ≡ length area
-
-  step-same : (s : Stored) → found (s .buffer) ≡ found area → length (s .buffer) ≡ length area → Step s []
-  step-same s e l = record {
-    records = ap (λ (f : Found). f .records) e ∙ sym (append-nil (found area .records));
-    ending = ap (λ (f : Found). f .ending) e ∙ S .ending;
-    long = l;
-  }
-
   step-at : (bytes : List ℕ) (c : Case) (i n : ℕ) → read bytes ≡ next c i
-      → Step (appendAt end n (take i bytes) area) (flagged bytes (appendAt end n (take i bytes) area .answer) (next c i))
+      → Step area (appendAt end n (take i bytes) area) (flagged bytes (appendAt end n (take i bytes) area .answer) (next c i))
   unfolding appendAt storeSome
   step-at bytes c i n e = go (leb (end + 1 + length (take i bytes)) (length area)) refl (every isUnused (drop end area)) refl
     where
@@ -190,39 +190,35 @@ module _ (area : List ℕ) (sound : Faultless area) where
       long = length-take-le i bytes (accepted bytes c i e .inside)
 
       made : leb (end + 1 + length (take i bytes)) (length area) ≡ true → every isUnused (drop end area) ≡ true → Dec (i < n)
-          → Step (storeSome n (appending end (take i bytes)) area) (cond (eqb (length (take n (appending end (take i bytes)))) (i + 1)) (take i bytes ∷ []) [])
+          → Step area (storeSome n (appending end (take i bytes)) area) (cond (eqb (length (take n (appending end (take i bytes)))) (i + 1)) (take i bytes ∷ []) [])
       made p q (yes l) =
           let whole = append-whole bytes c i n e l (leb-true (end + 1 + length (take i bytes)) (length area) p) q in
           let count : length (take n (appending end (take i bytes))) ≡ i + 1 = stores-made end n (take i bytes) ∙ omega (arith, long) in
           rw (eq-eqb (length (take n (appending end (take i bytes)))) (i + 1) count)
-          (record { records = ap (λ (f : Found). f .records) whole; ending = ap (λ (f : Found). f .ending) whole; long = stores-length (take n (appending end (take i bytes))) area })
+          (record { records = ap (λ (f : Found). f .records) whole; ending = ap (λ (f : Found). f .ending) whole ∙ sym (S .ending); long = stores-length (take n (appending end (take i bytes))) area })
       made p q (no l) =
           let count : length (take n (appending end (take i bytes))) ≡ n = stores-made end n (take i bytes) ∙ omega (arith, long) in
           rw (ne-eqb (length (take n (appending end (take i bytes)))) (i + 1) (λ z. omega arith))
-          (step-same _ (append-cut (take i bytes) n (omega (arith, long))) (stores-length (take n (appending end (take i bytes))) area))
+          (step-same area _ (append-cut (take i bytes) n (omega (arith, long))) (stores-length (take n (appending end (take i bytes))) area))
 
       go : (y : Bool) → leb (end + 1 + length (take i bytes)) (length area) ≡ y → (z : Bool) → every isUnused (drop end area) ≡ z
-          → Step (cond y (cond z (storeSome n (appending end (take i bytes)) area) (refuse 8 0 area)) (refuse 6 0 area))
+          → Step area (cond y (cond z (storeSome n (appending end (take i bytes)) area) (refuse 8 0 area)) (refuse 6 0 area))
           (flagged bytes (cond y (cond z (storeSome n (appending end (take i bytes)) area) (refuse 8 0 area)) (refuse 6 0 area) .answer) (next c i))
-      go false p z q = step-same (refuse 6 0 area) refl refl
-      go true p false q = step-same (refuse 8 0 area) refl refl
+      go false p z q = step-same area (refuse 6 0 area) refl refl
+      go true p false q = step-same area (refuse 8 0 area) refl refl
       go true p true q = made p q (decLt i n)
 
-  step-append : (bytes : List ℕ) (n : ℕ) → Step (append area bytes n) (flagged bytes (append area bytes n .answer) (read bytes))
+  step-append : (bytes : List ℕ) (n : ℕ) → Step area (append area bytes n) (flagged bytes (append area bytes n .answer) (read bytes))
   step-append bytes n = rw (append-is bytes n) (go (read bytes) refl)
     where
-      go : (o : Out Case) → read bytes ≡ o → Step (appendRead end n bytes area o) (flagged bytes (appendRead end n bytes area o .answer) o)
-      go (stop x p) e = step-same (refuse x p area) refl refl
+      go : (o : Out Case) → read bytes ≡ o → Step area (appendRead end n bytes area o) (flagged bytes (appendRead end n bytes area o .answer) o)
+      go (stop x p) e = step-same area (refuse x p area) refl refl
       go (next c i) e = step-at bytes c i n e
 
-  pub step-repair : (n : ℕ) → Step (repair area n) []
+  pub step-repair : (n : ℕ) → Step area (repair area n) []
   unfolding storeSome
-  step-repair n = step-same (repair area n) (repair-found n) (ap (λ (s : Stored). length (s .buffer)) (repair-is n) ∙ stores-length (take n (repairing area)) area)
+  step-repair n = step-same area (repair area n) (repair-stays n) (ap (λ (s : Stored). length (s .buffer)) (repair-is n) ∙ stores-length (take n (repairing area)) area)
 
-  pub step : (x : Change) → Step (change x area) (flagStored x (change x area .answer))
-  step (appends bytes n) = step-append bytes n
-  step (repairs n) = step-repair n
-
-  -- 02 (v): "Found afterwards: all earlier records, and the new one exactly if its flag was stored"
-  pub append-found : (bytes : List ℕ) (n : ℕ) → found (append area bytes n .buffer) .records ≡ found area .records ++ flagged bytes (append area bytes n .answer) (read bytes)
-  append-found bytes n = step-append bytes n .records
+  pub step-sound : (x : Change) → Step area (change x area) (flagStored x (change x area .answer))
+  step-sound (appends bytes n) = step-append bytes n
+  step-sound (repairs n) = step-repair n

@@ -27,11 +27,11 @@ pub record OneRecord (w : List ℕ) : Type 0 where
   pub case : Case
   pub whole : read w ≡ next case (length w)
 
--- an area whose log has no fault, after these changes: "Found afterwards: all earlier records, and the new one exactly if its flag was
--- stored"
+-- an area in any state, after these changes: "Found afterwards: all earlier records, and the new one exactly if its flag was stored"; its
+-- log ends as before, without fault or with the same one
 pub record Survives (area : List ℕ) (xs : List Change) : Type 0 where
   pub records : found (areaAfter area xs) .records ≡ found area .records ++ flagsStored area xs
-  pub ending : found (areaAfter area xs) .ending ≡ noFault
+  pub ending : found (areaAfter area xs) .ending ≡ found area .ending
   pub long : length (areaAfter area xs) ≡ length area
 
 -- the claim about an area of so many bytes, all `FF` at first: what is found is exactly the records whose flag was stored, in order, and the

@@ -1,6 +1,7 @@
 -- `area::append` meets its contract. Assumes nothing.
 use borrow.Author.Needs.{needs}
-use Rattle.area.proofs.Appending.{end-inside, appended, log-faulty}
+use Rattle.area.proofs.Appending.{appended, not-appended}
+use Rattle.area.proofs.Told.{end-inside}
 use Rattle.area.proofs.append.Statement.{statement}
 use Rattle.area.proofs.append.Tie as tie
 
@@ -16,5 +17,5 @@ append-spec =
     (done .answer, done .area))
     (λ c κs. search needs)
     (λ c. search needs)
-    (λ c. let faulty = log-faulty _ _ (c .before .before .before .find-end .ensures) _ _ (c .before .if1 .left) _ (c .log-fault .ensures) in
+    (λ c. let faulty = not-appended _ _ (c .before .before .before .find-end .ensures) _ _ (c .before .if1 .left) _ (c .log-fault .ensures) in
     (faulty .answer, faulty .area)))

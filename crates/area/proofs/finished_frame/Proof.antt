@@ -1,7 +1,7 @@
 -- `area::finished_frame` meets its contract. Assumes nothing.
 use native.Mathlib.Omega.{arith}
 use borrow.Author.Needs.{needs}
-use Rattle.area.proofs.Framing.{was-read, was-refused, place-within}
+use Rattle.area.proofs.Framing.{was-finished, was-refused, place-within}
 use Rattle.area.proofs.finished_frame.Statement.{statement}
 use Rattle.area.proofs.finished_frame.Tie as tie
 
@@ -14,7 +14,7 @@ finished-frame-spec =
     (λ c. search needs)
     (λ c. search needs)
     (λ c κs. search needs)
-    (λ c. search was-read)
+    (λ c. search was-finished)
     (λ c. search needs)
     (λ c. let there = c .before .before in
     let start = there .before .before .before .before .before in

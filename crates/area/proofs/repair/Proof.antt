@@ -1,6 +1,6 @@
 -- `area::repair` meets its contract. Assumes nothing.
 use borrow.Author.Needs.{needs}
-use Rattle.area.proofs.Clearing.{repaired, log-faulty}
+use Rattle.area.proofs.Clearing.{repaired, not-repaired}
 use Rattle.area.proofs.repair.Statement.{statement}
 use Rattle.area.proofs.repair.Tie as tie
 
@@ -17,5 +17,5 @@ repair-spec =
     (done .answer, done .area))
     (λ c κs. search needs)
     (λ c. search needs)
-    (λ c. let faulty = log-faulty _ _ (c .before .before .before .find-end .ensures) _ (c .before .if1 .left) _ (c .log-fault .ensures) in
+    (λ c. let faulty = not-repaired _ _ (c .before .before .before .find-end .ensures) _ (c .before .if1 .left) _ (c .log-fault .ensures) in
     (faulty .answer, faulty .area)))
