@@ -1,8 +1,8 @@
 /*
  * litmus: judges candidate executions under the POWER memory models PPCw and PPCs.
  *
- * A record is one candidate execution in bytes; docs/FORMAT.md describes it. Each call looks at
- * the record that starts at the first byte it is handed and reads no further than that record
+ * A record is one candidate execution in bytes; docs/FORMAT.md describes it. Each call on a record
+ * looks at the one that starts at the first byte it is handed and reads no further than that record
  * ends, so records may lie back to back. There are two editions of records, and every call takes
  * both: edition 2 has lwsyncs and dependencies. A barrier is a sync or an lwsync.
  *
@@ -91,9 +91,9 @@ enum {
  *          Where several rules are broken, the lowest is given.
  * place    under 1 to 4, the byte where the faulty number starts (under 4, of a pair: its first
  *          number, of a dependency: its class; of a name that is cut short: its first byte);
- *          under 23, the first byte of the name that is not printable; under 9, the flag. Of an
- *          area's log it counts from the area's start. Otherwise, and in every answer about a
- *          litmus_case, 0
+ *          under 23, the first byte of the name that is not printable; under 9, the flag;
+ *          otherwise, and in every answer about a litmus_case, 0. Of an area's log it counts from
+ *          the area's start
  * length   under 0 and 11 to 18, how many bytes the record takes; of litmus_area_append and
  *          litmus_area_repair under 0, how many stores were made; otherwise 0
  * finals   of litmus_judge and litmus_case_judge under 0, what each address holds at the end, and 0
@@ -257,7 +257,8 @@ litmus_log_answer litmus_log_judge(const uint8_t *bytes, size_t size, uint64_t f
  *
  * A call that stores does so one byte at a time, and stops after as many stores as it is allowed.
  * It answers 0 with the stores made as `length`, cut or not. Whichever store is the last one, every
- * record of a finished frame is still found.
+ * record of a finished frame is still found. This presupposes bytes that keep stores in the order
+ * in which they are made, when the power fails too.
  */
 
 /*

@@ -35,7 +35,8 @@ impl From<Frame> for Refusal {
 ///
 /// A record is appended byte by byte, and the flag that makes it count is stored last. So whichever
 /// store is the last one, every record appended before is found, and the new one exactly if its
-/// flag was stored. After a cut a repair clears what was left behind.
+/// flag was stored. After a cut a repair clears what was left behind. The bytes have to keep stores
+/// in the order in which they are made.
 ///
 /// ```
 /// use litmus::{AppendRefusal, Area};
@@ -58,7 +59,7 @@ impl From<Frame> for Refusal {
 ///
 /// assert_eq!(area.repair(), Ok(7));
 /// assert_eq!(area.append(&record), Ok(20));
-/// let found: Result<Vec<&[u8]>, _> = litmus::records(&bytes).collect();
+/// let found: Result<Vec<&[u8]>, _> = litmus::area_records(&bytes).collect();
 /// assert_eq!(found, Ok(vec![&record[..]; 2]));
 /// ```
 #[derive(Debug)]
@@ -82,7 +83,7 @@ impl<'a> Area<'a> {
 
     /// The records that are found.
     pub fn records(&self) -> Records<'_> {
-        records(self.bytes)
+        area_records(self.bytes)
     }
 
     /// Appends the record at the front of some bytes, and gives the stores made: one for each byte
@@ -120,7 +121,7 @@ pub struct Records<'a> {
 }
 
 /// The records that are found in an area's bytes.
-pub fn records(area: &[u8]) -> Records<'_> {
+pub fn area_records(area: &[u8]) -> Records<'_> {
     let at = Some(0);
     Records { area, at }
 }
@@ -161,7 +162,7 @@ impl AppendRefusal {
         match refusal.number {
             NO_ROOM => AppendRefusal::NoRoom,
             UNREPAIRED => AppendRefusal::Unrepaired,
-            _ => match records(area).find_map(Result::err) {
+            _ => match area_records(area).find_map(Result::err) {
                 Some(fault) => AppendRefusal::Log(fault),
                 None => AppendRefusal::Record(refusal),
             },

@@ -34,7 +34,7 @@
 //!
 //! A program that builds its cases itself uses [`Case`]; one that judges records as they come uses
 //! [`Log`]; one that keeps records through a power failure uses [`Area`]. The functions ending in
-//! `_raw` take any numbers and give the library's own [`Answer`].
+//! `_raw` take any numbers and give the library's own answers.
 
 mod answer;
 mod archive;
@@ -44,7 +44,7 @@ mod class;
 mod log;
 
 pub use answer::{meaning, Answer, CaseAnswer, Choice, Finals, Part, Refusal, Rule, Verdict};
-pub use area::{area_append_raw, area_next_raw, area_repair_raw, records};
+pub use area::{area_append_raw, area_next_raw, area_records, area_repair_raw};
 pub use area::{AppendRefusal, Area, Frame, Records};
 pub use case::Case;
 pub use class::{compared, compared_raw, lesser, representative, representative_raw};

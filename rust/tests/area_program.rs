@@ -5,7 +5,7 @@ mod command;
 
 use command::{examples, folder, run};
 use litmus::Refusal;
-use ordinary::answer::{ENDS, FORM, MISPLACED, OF_READING, RANGE, UNPRINTABLE};
+use ordinary::answer::{ENDS, FLAG, FORM, MISPLACED, OF_READING, RANGE, UNPRINTABLE};
 use ordinary::generate::{any_records, refused, short_records};
 use ordinary::random::Random;
 use ordinary::read;
@@ -22,10 +22,7 @@ const PROGRAM: &str = env!("CARGO_BIN_EXE_area");
 /// Longer than anything takes that does not hang.
 const LONG: Duration = Duration::from_secs(20);
 
-/// The refusal of a frame whose flag is neither FF nor 00.
-const FLAG: u32 = 9;
-
-const UNFINISHED: &str =
+const UNREPAIRED: &str =
     "behind the last finished frame lie unfinished bytes; 'area repair' clears them";
 
 fn expect(folder: &Path, words: &[&str], bytes: &[u8], expected: (&str, &str, i32)) {
@@ -242,7 +239,7 @@ fn unfinished_bytes() {
     for dirt in dirt {
         let bytes = area(&[&first[..], &dirt].concat(), 60);
         hold(&folder, &bytes);
-        let errors = format!("a: standard input, record 1 can't be appended: {UNFINISHED}\n");
+        let errors = format!("a: standard input, record 1 can't be appended: {UNREPAIRED}\n");
         expect(&folder, &["append", "a", "-"], &small, ("", &errors, 1));
         let count = dirt.iter().filter(|&&byte| byte != 0xff).count();
         let end = format!("{count} of them not FF: 'area repair' clears these");

@@ -1,10 +1,12 @@
-//! Numbers of every width: each number of some records of both editions in turn, through every call
-//! on records, and values up to the greatest.
+//! Numbers of every width: each number of some records of both editions in turn, through the calls
+//! on records, logs and areas, and values up to the greatest.
 
 mod common;
 
 use common::plain;
+use litmus::Tally;
 use ordinary::answer::{Refusal, ENDS, FORM, RANGE};
+use ordinary::area::{BLANK, FINISHED};
 use ordinary::case::{Event, Order};
 use ordinary::judge::{judge, PPCS, PPCW};
 use ordinary::limits::{ADDRESSES, EDITIONS, GROUPS, SECOND, VALUE};
@@ -54,7 +56,7 @@ fn splits(case: &Case) -> Vec<Split> {
     write::numbers(case).into_iter().map(split).collect()
 }
 
-/// By every call on records, with a buffer that is left alone.
+/// By the calls on records, with a buffer that is left alone, on logs and on areas.
 fn refused(bytes: &[u8], number: u32, place: usize) {
     let expected = Answer::from(Refusal { number, place });
     assert_eq!(read::answer(bytes), expected, "{bytes:?}");
@@ -64,10 +66,39 @@ fn refused(bytes: &[u8], number: u32, place: usize) {
         assert_eq!(judged, expected, "{bytes:?}");
     }
     let mut out = [0xEE; 64];
-    let answer = litmus::renumber_raw(bytes, 0, 0, &mut out, 0);
-    assert_eq!(plain(answer), expected, "{bytes:?}");
+    let renumbered = litmus::renumber_raw(bytes, 0, 0, &mut out, 0);
+    let represented = litmus::representative_raw(bytes, &mut out, 0);
+    for answer in [renumbered, represented] {
+        assert_eq!(plain(answer), expected, "{bytes:?}");
+    }
     assert_eq!(out, [0xEE; 64], "{bytes:?}");
     assert!(litmus::name(bytes).is_empty(), "{bytes:?}");
+    assert_eq!(litmus::compared_raw(bytes, bytes).which, 0, "{bytes:?}");
+    refused_in_log(bytes, expected);
+    refused_in_areas(bytes, expected);
+}
+
+/// The log ends there, and nothing is counted. A log without bytes is none that is refused.
+fn refused_in_log(bytes: &[u8], expected: Answer) {
+    let mut tally = Tally::default();
+    let log = litmus::judge_log_raw(bytes, 0, true, &mut tally);
+    let fault = match bytes {
+        [] => (0, 0),
+        _ => (expected.number, expected.place as u64),
+    };
+    assert_eq!((log.number, log.place), fault, "{bytes:?}");
+    assert_eq!(tally, Tally::default(), "{bytes:?}");
+}
+
+/// As a new record, with its place in it; and in a finished frame, where it is the log's.
+fn refused_in_areas(bytes: &[u8], expected: Answer) {
+    let mut area = [BLANK; 64];
+    let answer = litmus::area_append_raw(&mut area, bytes, u64::MAX);
+    assert_eq!(plain(answer), expected, "{bytes:?}");
+    assert_eq!(area, [BLANK; 64], "{bytes:?}");
+    let frame = litmus::area_next_raw(&[&[FINISHED], bytes].concat(), 0);
+    let place = 1 + expected.place as u64;
+    assert_eq!((frame.number, frame.place), (expected.number, place));
 }
 
 /// Small cases of both editions that have every field.

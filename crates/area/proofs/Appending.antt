@@ -18,11 +18,11 @@ use Rattle.answers.specs.Shown.{shown}
 use Rattle.laws.proofs.ExtentCase.{accepted}
 use Rattle.reader.specs.declared.Reading.{Reading}
 use Rattle.reader.specs.Answers.{readingOf}
-use Rattle.reader.proofs.Found.{missed}
+use Rattle.reader.proofs.Found.{was-read, missed}
 use Rattle.area_model.specs.Area.{unused, isUnused, found, appending, storeSome, appendAt, appendRead, append}
 use Rattle.area.specs.declared.End.{End}
 use Rattle.area.specs.Shown.{endShown, Answered, Made}
-use Rattle.area.proofs.Told.{was-read, end-is, faultless, faulty}
+use Rattle.area.proofs.Told.{end-is, faultless, faulty}
 
 -- ---- the loop of `all_unused`
 
@@ -60,9 +60,9 @@ module _ (area : List ℕ) (end : ℕ) (bytes : List ℕ) (size allowed : ℕ) (
   no-room r e n = rw (room-of false n) (record { answer = e; area = refl })
 
   module _ (b : Bool) (free : b ≡ every isUnused (drop end area)) (l : y ≡ true) where
-    pub unfinished : (r : Answer) → r ≡ shown (refusal 8 0) → b ≡ false → Answered (appendAt end allowed (take size bytes) area) r area
+    pub unrepaired : (r : Answer) → r ≡ shown (refusal 8 0) → b ≡ false → Answered (appendAt end allowed (take size bytes) area) r area
     unfolding appendAt
-    unfinished r e q = let z : every isUnused (drop end area) ≡ false = sym free ∙ q in rw (room-of true l, z) (record { answer = e; area = refl })
+    unrepaired r e q = let z : every isUnused (drop end area) ≡ false = sym free ∙ q in rw (room-of true l, z) (record { answer = e; area = refl })
 
     pub stored : (r : Answer) (stores : ℕ) (now : List ℕ) → r ≡ shown (done stores) → Made (storeSome allowed (appending end (take size bytes)) area) stores now
         → b ≡ true → Answered (appendAt end allowed (take size bytes) area) r now
@@ -75,7 +75,7 @@ module _ (area : List ℕ) (end : ℕ) (bytes : List ℕ) (size allowed : ℕ) (
 
 module _ (bytes : List ℕ) (r : Reading) (e : r ≡ readingOf (read bytes)) where
   pub record-within : r .number ≡ 0 → r .length ≤ length bytes
-  record-within z = let R = was-read bytes r e z in accepted bytes (R .case) (r .length) (R .is-read) .inside
+  record-within z = let R = was-read bytes r e z in accepted bytes (R .c) (r .length) (R .is-read) .inside
 
   module _ (area : List ℕ) (end allowed : ℕ) where
     pub record-appended : r .number ≡ 0 → (a : Answer) (now : List ℕ) → Answered (appendAt end allowed (take (r .length) bytes) area) a now

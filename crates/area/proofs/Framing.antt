@@ -17,13 +17,12 @@ use Rattle.laws.proofs.ExtentCase.{Accepted, accepted}
 use Rattle.reader.specs.declared.Reading.{Reading}
 use Rattle.reader.specs.Answers.{readingOf}
 use Rattle.reader.proofs.Bytes.{Octets, slice-bytes}
-use Rattle.reader.proofs.Found.{missed}
+use Rattle.reader.proofs.Found.{was-read, missed}
 use Rattle.area_model.specs.Area.{unused, finishedFlag, Frame, finished, none, byReading, frameAt, foundFrom, found}
 use Rattle.area_model.proofs.Frames.{frame-over, frame-read, frame-bad, frame-reads, walk}
 use Rattle.area.specs.declared.Frame.{Frame as Given}
 use Rattle.area.specs.declared.End.{End}
 use Rattle.area.specs.Shown.{frameShown, endShown}
-use Rattle.area.proofs.Told.{was-read}
 
 -- ---- the ways through `finished_frame`
 

@@ -1,4 +1,4 @@
--- What the end of a log and the reading of a record tell.
+-- What the end of a log tells.
 -- Assumes nothing.
 use Prim.Native.Nat.{ℕ, _≤_}
 use native.Mathlib.Omega.{arith}
@@ -6,35 +6,13 @@ use mathlib.Core.Path.{_≡_, refl, sym, ap, _∙_}
 use mathlib.Core.List.{List}
 use lib.ListN.{length}
 use borrow.Author.Tests.{ne-eqb}
-use Rattle.number.specs.Reader.{Out, stop, next}
-use Rattle.model.specs.Case.{Case}
-use Rattle.model.specs.Record.{read}
 use Rattle.model.specs.Answers.{Stored, refusal}
 use Rattle.answers.specs.declared.Answer.{Answer}
 use Rattle.answers.specs.Shown.{shown}
-use Rattle.laws.proofs.ExtentCase.{refusal-least}
-use Rattle.reader.specs.declared.Reading.{Reading}
-use Rattle.reader.specs.Answers.{readingOf}
 use Rattle.area_model.specs.Area.{found, unlessFault}
 use Rattle.area_model.proofs.Survival.{end-within}
 use Rattle.area.specs.declared.End.{End}
 use Rattle.area.specs.Shown.{endShown, Answered}
-
--- a record that was read
-pub record Read (s : List ℕ) (r : Reading) : Type 0 where
-  pub case : Case
-  pub is-read : read s ≡ next case (r .length)
-
-pub was-read : (s : List ℕ) (r : Reading) → r ≡ readingOf (read s) → r .number ≡ 0 → Read s r
-was-read s r e z = go (read s) refl e
-  where
-    go : (o : Out Case) → read s ≡ o → r ≡ readingOf o → Read s r
-    go (stop x p) g h =
-        let same : r .number ≡ x = ap (λ (q : Reading). q .number) h ∙ (unfold readingOf in refl) in
-        absurd (omega (arith, refusal-least s x p g))
-    go (next c i) g h =
-        let same : r .length ≡ i = ap (λ (q : Reading). q .length) h ∙ (unfold readingOf in refl) in
-        record { case = c; is-read = g ∙ ap (next c) (sym same) }
 
 module _ (area : List ℕ) (l : End) (e : l ≡ endShown (found area)) where
   number-is : l .number ≡ found area .ending .number

@@ -17,15 +17,15 @@ const FINISHED: u8 = 0;
 
 const UNUSED: u8 = 255;
 
-// Refusals: a flag that is neither; too little room for a record; bytes behind the last finished frame that are not unused.
+// Refusals: a flag that is neither; too little room for a record; bytes behind the last finished frame that are not `FF`.
 const BAD_FLAG: u32 = 9;
 
 const NO_ROOM: u8 = 6;
 
-const UNFINISHED: u8 = 8;
+const UNREPAIRED: u8 = 8;
 
-// What stands at a place of an area: a finished frame, as where its record begins and how many bytes that has; or none, and the log ends
-// there, by which fault of its own, 0 if by none, and at which place.
+// What stands at a place of an area. Where it is a finished frame, its record begins at `at` and has `length` bytes. Where it is none, the
+// log has ended there, and `number` and `place` are its own fault, 0 if it has none. The other fields are 0.
 #[repr(C)]
 pub struct Frame {
     pub number: u32,
@@ -182,7 +182,7 @@ fn append_at(area: &mut [u8], end: usize, bytes: &[u8], size: usize, allowed: us
             let stores = store_frame(area, end, bytes, size, allowed);
             return answers::finished(stores);
         }
-        return answers::refused(UNFINISHED, 0);
+        return answers::refused(UNREPAIRED, 0);
     }
     answers::refused(NO_ROOM, 0)
 }
@@ -212,7 +212,7 @@ pub fn append(area: &mut [u8], bytes: &[u8], allowed: usize) -> Answer
     log_fault(log)
 }
 
-// Makes a byte unused, and gives the stores that took.
+// Makes a byte unused, and gives how many stores that took.
 fn clear_byte(area: &mut [u8], at: usize) -> usize
     requires { ⌜ at < length (now area) ⌝ }
     ensures { λ r. ⌜ Cleared (now (area .entry)) at r (now (area .exit)) ⌝ }

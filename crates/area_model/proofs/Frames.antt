@@ -15,7 +15,7 @@ use Rattle.model.specs.Case.{Case}
 use Rattle.model.specs.Record.{read}
 use Rattle.laws.proofs.ExtentCase.{Accepted, accepted, refusal-least}
 use Rattle.log_model.specs.Log.{noFault}
-use Rattle.area_model.specs.Area.{unused, finishedFlag, isUnused, Frame, finished, none, byReading, frameOf, frameAt, Found, endsAt, before, following, foundBy, foundFrom, found}
+use Rattle.area_model.specs.Area.{unused, finishedFlag, isUnused, badFlag, Frame, finished, none, byReading, frameOf, frameAt, Found, endsAt, before, following, foundBy, foundFrom, found}
 
 -- ---- without fuel
 
@@ -70,9 +70,13 @@ pub frame-read : (place : ℕ) (s : List ℕ) → frameOf place (finishedFlag �
 unfolding frameOf
 frame-read place s = refl
 
-pub frame-bad : (place b : ℕ) (s : List ℕ) → (b ≡ unused → ⊥) → (b ≡ finishedFlag → ⊥) → frameOf place (b ∷ s) ≡ none (record { number = 9; place = place })
+pub frame-bad : (place b : ℕ) (s : List ℕ) → (b ≡ unused → ⊥) → (b ≡ finishedFlag → ⊥) → frameOf place (b ∷ s) ≡ none (badFlag place)
 unfolding frameOf
 frame-bad place b s m n = rw (ne-eqb b unused m, ne-eqb b finishedFlag n)
+
+-- by what the flag is, and what reading the record answers
+abbrev pub byFlag : (place : ℕ) → (isEnd isFinished : Bool) → Out Case → Frame
+byFlag place y z o = cond y (none noFault) (cond z (byReading place o) (none (badFlag place)))
 
 -- the record of a finished frame
 pub record FrameReads (s : List ℕ) (i : ℕ) : Type 0 where
@@ -90,7 +94,7 @@ if-finished place [] = tt
 if-finished place (flag ∷ s) = go (isUnused flag) (eqb flag finishedFlag) (read s) refl
   where
     go : (y z : Bool) (o : Out Case) → read s ≡ o
-        → IfFinished (flag ∷ s) (cond y (none noFault) (cond z (byReading place o) (none (record { number = 9; place = place }))))
+        → IfFinished (flag ∷ s) (byFlag place y z o)
     go true z o e = tt
     go false false o e = tt
     go false true (stop x p) e = tt
@@ -146,10 +150,6 @@ split-one place s c i e f S =
           ∙ rw (take-at (take i s) (S .front ++ t) i size, drop-at (take i s) (S .front ++ t) i size, S .again t);
     }
 
--- by what the flag is, and what reading the record answers
-abbrev pub byFlag : (place : ℕ) → List ℕ → (behind : ℕ → Found) → (isEnd isFinished : Bool) → Out Case → Found
-byFlag place s behind y z o = following place s behind (cond y (none noFault) (cond z (byReading place o) (none (record { number = 9; place = place }))))
-
 split-by : (j place : ℕ) (s : List ℕ) → length s ≤ j → foundBy j place s .ending .number ≡ 0 → Split place s (foundBy j place s)
 unfolding foundBy frameOf
 split-by zero place [] l h = split-over place [] tt
@@ -159,7 +159,7 @@ split-by (suc j) place (flag ∷ s) l h = go (λ k. split-by j (place + suc k) (
   where
     go : ((k : ℕ) → foundBy j (place + suc k) (drop k s) .ending .number ≡ 0 → Split (place + suc k) (drop k s) (foundBy j (place + suc k) (drop k s)))
         → (y : Bool) → isUnused flag ≡ y → (z : Bool) → eqb flag finishedFlag ≡ z → (o : Out Case) → read s ≡ o
-        → byFlag place (flag ∷ s) (λ i. foundBy j (place + i) (drop i (flag ∷ s))) y z o .ending .number ≡ 0 → Split place (flag ∷ s) (byFlag place (flag ∷ s) (λ i. foundBy j (place + i) (drop i (flag ∷ s))) y z o)
+        → following place (flag ∷ s) (λ i. foundBy j (place + i) (drop i (flag ∷ s))) (byFlag place y z o) .ending .number ≡ 0 → Split place (flag ∷ s) (following place (flag ∷ s) (λ i. foundBy j (place + i) (drop i (flag ∷ s))) (byFlag place y z o))
     go ih true p z q o e h = split-over place (flag ∷ s) (eqb-true flag unused p)
     go ih false p false q o e h = absurd (omega arith)
     go ih false p true q (stop x r) e h = absurd (omega (arith, refusal-least s x r e))

@@ -20,7 +20,7 @@ use Rattle.laws.proofs.Exact.{Refused, refused-within}
 use Rattle.laws.proofs.ExactCase.{refused}
 use Rattle.laws.proofs.ExtentCase.{accepted}
 use Rattle.log_model.specs.Log.{Ending, noFault}
-use Rattle.area_model.specs.Area.{finishedFlag, isUnused, frameOf, foundBy, foundFrom, found, Store, appending, storeSome, refuse, unlessFault, appendAt, appendRead, append, repairing, repair}
+use Rattle.area_model.specs.Area.{finishedFlag, isUnused, frameOf, following, foundBy, foundFrom, found, Store, appending, storeSome, refuse, unlessFault, appendAt, appendRead, append, repairing, repair}
 use Rattle.area_model.specs.Changes.{Change, appends, repairs, change}
 use Rattle.area_model.specs.Claim.{LogFault}
 use Rattle.area_model.proofs.Frames.{byFlag}
@@ -42,7 +42,7 @@ ends-by size (suc j) place [] b l = inl refl
 ends-by size (suc j) place (flag ∷ s) b l = go (λ i k. ends-by size j (place + suc i) (drop i s) (all-drop _ i s (b .1)) k) (isUnused flag) (eqb flag finishedFlag) (read s) refl
   where
     go : ((i : ℕ) → place + suc i + length (drop i s) ≤ size → Ends size (foundBy j (place + suc i) (drop i s) .ending))
-        → (y z : Bool) (o : Out Case) → read s ≡ o → Ends size (byFlag place (flag ∷ s) (λ i. foundBy j (place + i) (drop i (flag ∷ s))) y z o .ending)
+        → (y z : Bool) (o : Out Case) → read s ≡ o → Ends size (following place (flag ∷ s) (λ i. foundBy j (place + i) (drop i (flag ∷ s))) (byFlag place y z o) .ending)
     go ih true z o e = inl refl
     go ih false false o e = inr (record { number = inl refl; place = omega arith })
     go ih false true (stop x p) e = inr (of-record size s x p place (refused s (b .1) x p e) l)

@@ -7,8 +7,8 @@ use mathlib.Core.Bool.{Bool, true, false, cond}
 use mathlib.Core.List.{List, _++_}
 use mathlib.Core.Logic.{⊎-elim}
 use lib.Dec.{leb}
-use lib.ListN.{length, take, drop}
-use lib.Seq.{take-at, drop-at, take-all}
+use lib.ListN.{length, take, drop, take-append-drop}
+use lib.Seq.{drop-at, take-all, length-take-le}
 use Rattle.finite.specs.Lists.{every}
 use Rattle.number.specs.Number.{Bytes}
 use Rattle.number.specs.Reader.{Out, stop, next}
@@ -17,11 +17,10 @@ use Rattle.model.specs.Record.{read}
 use Rattle.model.specs.Answers.{Stored}
 use Rattle.laws.proofs.Exact.{Refused}
 use Rattle.laws.proofs.ExactCase.{refused}
-use Rattle.area_model.specs.Area.{isUnused, found, Store, afterStores, appending, clearing, storeSome, refuse, appendAt, append, repairing, repair}
+use Rattle.area_model.specs.Area.{isUnused, found, Store, afterStores, appending, storeSome, refuse, appendAt, append, repairing, repair}
 use Rattle.area_model.specs.Claim.{blank}
-use Rattle.area_model.proofs.Frames.{Split, split}
 use Rattle.area_model.proofs.Stores.{stores-clearing}
-use Rattle.area_model.proofs.Survival.{Faultless, front-length, rest-is, repair-is, repair-stays, step-repair}
+use Rattle.area_model.proofs.Survival.{Faultless, end-within, repair-is, repair-stays, step-repair}
 
 pub blank-unused : (n : ℕ) → every isUnused (blank n) ≡ true
 unfolding every
@@ -41,24 +40,18 @@ module _ (area : List ℕ) (sound : Faultless area) (n : ℕ) (whole : length (r
   abbrev end : ℕ
   end = found area .end
 
-  abbrev S : Split 0 area (found area)
-  S = split area sound
-
-  front-is : take end area ≡ S .front
-  front-is = ap (take end) (S .whole) ∙ take-at (S .front) (S .rest) end (front-length area sound)
+  front-length : length (take end area) ≡ end
+  front-length = length-take-le end area (end-within area sound)
 
   -- 02 (v): "A repair fills everything behind the last finished frame with `FF`"; the bytes before stay
   pub repair-whole : repair area n .buffer ≡ take end area ++ blank (length (drop end area))
   unfolding storeSome
   repair-whole =
-      ap (λ (s : Stored). s .buffer) (repair-is area sound n) ∙ ap (afterStores area) (take-all n (repairing area) whole ∙ ap (clearing end) (rest-is area sound))
-      ∙ ap (λ (a : List ℕ). afterStores a (clearing end (S .rest))) (S .whole)
-      ∙ stores-clearing (S .front) (S .rest) end (front-length area sound) ∙ rw (front-is, rest-is area sound)
+      ap (λ (s : Stored). s .buffer) (repair-is area sound n) ∙ ap (afterStores area) (take-all n (repairing area) whole)
+      ∙ ap (λ (a : List ℕ). afterStores a (repairing area)) (sym (take-append-drop end area)) ∙ stores-clearing (take end area) (drop end area) end front-length
 
   free : every isUnused (drop end (repair area n .buffer)) ≡ true
-  free =
-      let front : length (take end area) ≡ end = ap length front-is ∙ front-length area sound in
-      rw (repair-whole, drop-at (take end area) (blank (length (drop end area))) end front) (blank-unused (length (drop end area)))
+  free = rw (repair-whole, drop-at (take end area) (blank (length (drop end area))) end front-length) (blank-unused (length (drop end area)))
 
   -- "The next append may use that room again": a record that can be read is stored wherever it has room in the area; 8 can't come
   pub room-again : (bytes : List ℕ) (c : Case) (i m : ℕ) → read bytes ≡ next c i
@@ -72,8 +65,8 @@ module _ (area : List ℕ) (sound : Faultless area) (n : ℕ) (whole : length (r
   refused-is bytes m x p e = rw (repair-stays area sound n, sound, e)
 
   -- whatever bytes are to be appended
-  pub not-unfinished : (bytes : List ℕ) → Bytes bytes → (m : ℕ) → append (repair area n .buffer) bytes m .answer .number ≡ 8 → ⊥
-  not-unfinished bytes b m = go (read bytes) refl
+  pub never-unrepaired : (bytes : List ℕ) → Bytes bytes → (m : ℕ) → append (repair area n .buffer) bytes m .answer .number ≡ 8 → ⊥
+  never-unrepaired bytes b m = go (read bytes) refl
     where
       go : (o : Out Case) → read bytes ≡ o → append (repair area n .buffer) bytes m .answer .number ≡ 8 → ⊥
       go (stop x p) e z = not-8 bytes x p (refused bytes b x p e) (sym (refused-is bytes m x p e) ∙ z)

@@ -5,8 +5,8 @@ use native.Mathlib.Omega.{arith}
 use mathlib.Core.Path.{_≡_, refl, sym, ap, _∙_}
 use mathlib.Core.Bool.{Bool, true, false, cond}
 use mathlib.Core.List.{List, [], _∷_, _++_}
-use lib.ListN.{length, take, set, replicate, length-append, length-set}
-use lib.Seq.{take-set-le, set-at, sets, append-snoc}
+use lib.ListN.{length, take, drop, set, replicate, length-append, length-set}
+use lib.Seq.{drop-at, take-set-le, set-at, sets, append-snoc}
 use borrow.Author.Tests.{eqb-true}
 use Rattle.area_model.specs.Area.{unused, isUnused, Store, afterStores, storing, flagging, appending, clearing}
 
@@ -64,17 +64,16 @@ unfolding storing
 storing-length place [] = refl
 storing-length place (b ∷ w) = ap suc (storing-length (suc place) w)
 
-pub storing-take : (n place : ℕ) (w : List ℕ) → take n (storing place w) ≡ storing place (take n w)
-unfolding storing
-storing-take zero place w = refl
-storing-take (suc n) place [] = refl
-storing-take (suc n) place (b ∷ w) = ap (λ (xs : List Store). record { at = place; byte = b } ∷ xs) (storing-take n (suc place) w)
-
 -- one more than the record has bytes
 pub appending-length : (place : ℕ) (w : List ℕ) → length (appending place w) ≡ suc (length w)
 unfolding appending
 appending-length place w =
     length-append (storing (suc place) w) (flagging place) ∙ ap (λ (k : ℕ). k + 1) (storing-length (suc place) w) ∙ omega arith
+
+-- the flag's store is the last
+pub flag-last : (place : ℕ) (w : List ℕ) → drop (length w) (appending place w) ≡ flagging place
+unfolding appending
+flag-last place w = drop-at (storing (suc place) w) (flagging place) (length w) (storing-length (suc place) w)
 
 -- all that isn't unused is cleared
 pub stores-clearing : (front s : List ℕ) (place : ℕ) → length front ≡ place → afterStores (front ++ s) (clearing place s) ≡ front ++ replicate (length s) unused

@@ -65,10 +65,10 @@ module _ (area : List ℕ) (sound : Faultless area) where
   abbrev end : ℕ
   end = found area .end
 
-  pub front-length : length (S .front) ≡ end
+  front-length : length (S .front) ≡ end
   front-length = omega (arith, S .end)
 
-  pub rest-is : drop end area ≡ S .rest
+  rest-is : drop end area ≡ S .rest
   rest-is = ap (drop end) (S .whole) ∙ drop-at (S .front) (S .rest) end front-length
 
   pub end-within : end ≤ length area

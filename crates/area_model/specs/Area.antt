@@ -12,14 +12,15 @@ use Rattle.model.specs.Record.{read}
 use Rattle.model.specs.Answers.{Stored, refusal, done}
 use Rattle.log_model.specs.Log.{Ending, noFault}
 
--- 02 (v): "a lent area that starts as all `FF`"; "`FF` ends the log"
+-- the byte `FF`: an area has nothing else at first, and as a flag it ends the log
 abbrev pub unused : ℕ
 unused = 255
 
--- "`00` marks a finished frame"
+-- the flag `00`
 abbrev pub finishedFlag : ℕ
 finishedFlag = 0
 
+-- whether a byte is `FF`
 abbrev pub isUnused : ℕ → Bool
 isUnused b = eqb b unused
 
@@ -33,13 +34,17 @@ abbrev pub byReading : (place : ℕ) → Out Case → Frame
 byReading place (stop x p) = none (record { number = x; place = place + 1 + p })
 byReading place (next c i) = finished i
 
--- the bytes from a place on: "A frame is a flag byte and a record; `FF` ends the log, `00` marks a finished frame, any other flag is refused
+-- another flag
+abbrev pub badFlag : (place : ℕ) → Ending
+badFlag place = record { number = 9; place = place }
+
+-- the bytes from a place on: 02 (v): "A frame is a flag byte and a record; `FF` ends the log, `00` marks a finished frame, any other flag is refused
 -- with 9 and its place"; "An area filled to its last byte also ends the log"
 unfoldable pub frameOf : (place : ℕ) → List ℕ → Frame
 frameOf place [] = none noFault
 frameOf place (flag ∷ s) =
     cond (isUnused flag) (none noFault)
-    (cond (eqb flag finishedFlag) (byReading place (read s)) (none (record { number = 9; place = place })))
+    (cond (eqb flag finishedFlag) (byReading place (read s)) (none (badFlag place)))
 
 -- what stands at a place of an area
 abbrev pub frameAt : List ℕ → (place : ℕ) → Frame
@@ -69,6 +74,7 @@ unfoldable pub foundBy : (fuel place : ℕ) → List ℕ → Found
 foundBy zero place s = endsAt place noFault
 foundBy (suc j) place s = following place s (λ i. foundBy j (place + i) (drop i s)) (frameOf place s)
 
+-- what is found in the bytes s
 unfoldable pub foundFrom : (place : ℕ) → List ℕ → Found
 foundFrom place s = foundBy (length s) place s
 
@@ -141,6 +147,6 @@ append area bytes allowed =
 abbrev pub repairing : List ℕ → List Store
 repairing area = let f = found area in clearing (f .end) (drop (f .end) area)
 
--- "a log's own fault is its answer and then nothing changes"
+-- a repair, cut after as many stores as allowed
 unfoldable pub repair : (area : List ℕ) (allowed : ℕ) → Stored
 repair area allowed = unlessFault (found area .ending) area (storeSome allowed (repairing area) area)

@@ -13,11 +13,11 @@ use Rattle.log_model.specs.Log.{Ending, noFault}
 use Rattle.area_model.specs.Area.{unused, found}
 use Rattle.area_model.specs.Changes.{Change, areaAfter, flagsStored}
 
--- "a lent area that starts as all `FF`"
+-- 02 (v): "a lent area that starts as all `FF`"
 abbrev pub blank : (size : ℕ) → List ℕ
 blank size = replicate size unused
 
--- "the log's own faults (9, 1 to 4)", and 23 (02 (xi)), at a place within an area of so many bytes
+-- "the log's own faults (9, 1 to 4)", and 23 (02 (xi)), at a place that is not past the end of an area of so many bytes
 pub record LogFault (size : ℕ) (e : Ending) : Type 0 where
   pub number : (e .number ≡ 9) ⊎ (((1 ≤ e .number) × (e .number ≤ 4)) ⊎ (e .number ≡ 23))
   pub place : e .place ≤ size

@@ -47,7 +47,7 @@ worked (x ∷ xs) = holds x && worked xs
 abbrev pub frame : List ℕ → List ℕ
 frame w = finishedFlag ∷ w
 
--- the bytes of an unfinished frame behind the flag, which is `FF` still: the first six of 01's small record
+-- an unfinished frame: its flag is `FF` still, and behind it stand the first six bytes of 01's small record
 abbrev pub cutFrame : List ℕ
 cutFrame = 255 ∷ take 6 small
 

@@ -11,8 +11,8 @@ use Rattle.model.specs.Case.{Case}
 use Rattle.model.specs.Record.{read}
 use Rattle.model.specs.Written.{recordOf}
 use Rattle.model.specs.Fits.{Fits}
-use Rattle.laws.proofs.Exact.{refused-least}
-use Rattle.laws.proofs.ExactCase.{Readable, readable, refused}
+use Rattle.laws.proofs.ExactCase.{Readable, readable}
+use Rattle.laws.proofs.ExtentCase.{refusal-least}
 use Rattle.case.specs.Held.{caseOf, held}
 use Rattle.case.specs.Sound.{Sound}
 use Rattle.case.proofs.HeldBack.{fits-back}
@@ -40,22 +40,28 @@ module _ {s : List ℕ} {r : Reading} (f : Found s r) where
   pub case-sound : Sound (r .case)
   case-sound = subst Sound (sym (f .holds)) (held-sound (f .c) (f .fits))
 
-pub found : (s : List ℕ) → Bytes s → (r : Reading) → r ≡ readingOf (read s) → r .number ≡ 0 → Found s r
+-- a record was read, and the struct holds its case
+pub record Read (s : List ℕ) (r : Reading) : Type 0 where
+  pub c : Case
+  pub is-read : read s ≡ next c (r .length)
+  pub holds : r .case ≡ held c
+
+pub was-read : (s : List ℕ) (r : Reading) → r ≡ readingOf (read s) → r .number ≡ 0 → Read s r
 unfolding readingOf
-found s b r e z = go (read s) refl e
+was-read s r e z = go (read s) refl e
   where
-    go : (o : Out Case) → read s ≡ o → r ≡ readingOf o → Found s r
+    go : (o : Out Case) → read s ≡ o → r ≡ readingOf o → Read s r
     go (stop x p) g e =
         let same : r .number ≡ x = ap (λ (q : Reading). q .number) e in
-        absurd (omega (arith, refused-least (refused s b x p g)))
+        absurd (omega (arith, refusal-least s x p g))
     go (next c i) g e =
         let same : r .length ≡ i = ap (λ (q : Reading). q .length) e in
-        record {
-          c = c;
-          is-read = g ∙ ap (next c) (sym same);
-          holds = ap (λ (q : Reading). q .case) e;
-          fits = readable s b c i g .fits;
-        }
+        record { c = c; is-read = g ∙ ap (next c) (sym same); holds = ap (λ (q : Reading). q .case) e }
+
+pub found : (s : List ℕ) → Bytes s → (r : Reading) → r ≡ readingOf (read s) → r .number ≡ 0 → Found s r
+found s b r e z =
+    let R : Read s r = was-read s r e z in
+    record { c = R .c; is-read = R .is-read; holds = R .holds; fits = readable s b (R .c) (r .length) (R .is-read) .fits }
 
 pub missed : (s : List ℕ) (r : Reading) → r ≡ readingOf (read s) → (r .number ≡ 0 → ⊥) → read s ≡ stop (r .number) (r .place)
 unfolding readingOf

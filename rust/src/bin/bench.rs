@@ -197,7 +197,7 @@ fn area(which: &str, records: &[Vec<u8>]) {
     let area = [frames.collect::<Vec<Vec<u8>>>().concat()];
     let walking = compare(
         &area,
-        |area| u64::from(litmus::records(area).count() != INPUTS),
+        |area| u64::from(litmus::area_records(area).count() != INPUTS),
         |area| u64::from(areas::walked(area) != Some((INPUTS, area.len()))),
     );
     walking.print(["walking              ours", ORDINARY], unit, 2);

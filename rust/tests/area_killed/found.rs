@@ -1,7 +1,6 @@
 //! What a file holds of an area, found without the library.
 
-use ordinary::area::BLANK;
-use ordinary::read::read;
+use ordinary::area::{find, BLANK};
 use std::fs;
 use std::path::Path;
 
@@ -14,16 +13,18 @@ pub struct Found {
 /// Walks over an area whose log has no fault.
 pub fn found(file: &Path) -> Found {
     let bytes = fs::read(file).expect("an area");
-    let (mut records, mut rest) = (Vec::new(), &bytes[..]);
-    while rest.first().is_some_and(|&flag| flag != BLANK) {
-        assert_eq!(rest[0], 0, "a flag behind {} records", records.len());
-        let length = read(&rest[1..]).expect("a record").length;
-        let (frame, behind) = rest.split_at(1 + length);
-        records.push(frame[1..].to_vec());
-        rest = behind;
+    let found = find(&bytes);
+    assert_eq!(
+        found.refusal,
+        None,
+        "behind {} records",
+        found.records.len()
+    );
+    let records = found.records.into_iter();
+    Found {
+        records: records.map(|place| bytes[place].to_vec()).collect(),
+        behind: bytes[found.end..].to_vec(),
     }
-    let behind = rest.to_vec();
-    Found { records, behind }
 }
 
 impl Found {

@@ -63,7 +63,7 @@ pub fn compare(area: &mut [u8], call: Call, allowed: u64) -> Answer {
 
 /// The records that the library finds, and the log's own fault.
 pub fn found(area: &[u8]) -> (Vec<&[u8]>, Option<litmus::Refusal>) {
-    let (records, faults): (Vec<_>, Vec<_>) = litmus::records(area).partition(Result::is_ok);
+    let (records, faults): (Vec<_>, Vec<_>) = litmus::area_records(area).partition(Result::is_ok);
     assert!(faults.len() <= 1, "{area:?}");
     let records = records.into_iter().flatten().collect();
     (records, faults.into_iter().find_map(Result::err))

@@ -3,7 +3,7 @@
 use crate::both::Call;
 use crate::made::{any_area, any_new, frame};
 use crate::{whose, APPEND, LOG_APPEND, OF_LOGS, OF_RECORDS, RECORD};
-use litmus::{area_append_raw, area_repair_raw, records, AppendRefusal, Area, Refusal};
+use litmus::{area_append_raw, area_records, area_repair_raw, AppendRefusal, Area, Refusal};
 use ordinary::answer::{ENDS, FLAG, ROOM, UNREPAIRED};
 use ordinary::random::Random;
 use ordinary::tally::Tally;
@@ -89,7 +89,7 @@ fn refused(number: u32, place: usize) -> Refusal {
 #[test]
 fn records_of_an_area() {
     fn fused(area: &[u8]) -> impl FusedIterator<Item = Result<&[u8], Refusal>> {
-        records(area)
+        area_records(area)
     }
     for (behind, last) in [
         (&[][..], None),
@@ -102,7 +102,7 @@ fn records_of_an_area() {
         assert_eq!(found.next(), last);
         assert_eq!([found.next(), found.next()], [None; 2]);
     }
-    assert_eq!(records(&[]).next(), None);
+    assert_eq!(area_records(&[]).next(), None);
 }
 
 /// Its words are the refusal's and whose it is, so there is no source besides.

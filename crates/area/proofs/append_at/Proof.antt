@@ -1,6 +1,6 @@
 -- `area::append_at` meets its contract. Assumes nothing.
 use borrow.Author.Needs.{needs}
-use Rattle.area.proofs.Appending.{room-for, no-room, unfinished, stored}
+use Rattle.area.proofs.Appending.{room-for, no-room, unrepaired, stored}
 use Rattle.area.proofs.append_at.Statement.{statement}
 use Rattle.area.proofs.append_at.Tie as tie
 
@@ -16,7 +16,7 @@ append-at-spec =
     (λ c. search stored)
     (λ c κs. search needs)
     (λ c. search needs)
-    (λ c. search unfinished)
+    (λ c. search unrepaired)
     (λ c κs. search needs)
     (λ c. search needs)
     (λ c. search no-room))

@@ -1,16 +1,13 @@
 //! An area that a file keeps.
 
-use litmus::{area_append_raw, area_repair_raw, records, Answer, Area, Refusal};
+use litmus::{area_records, AppendRefusal, Area, Refusal};
 use std::error::Error;
 use std::fs::{self, File};
 use std::io::{self, Read};
 use std::os::unix::fs::FileExt;
 use std::path::Path;
 
-/// All stores are allowed.
-const ALL: u64 = u64::MAX;
-
-const UNFINISHED: &str =
+const UNREPAIRED: &str =
     "behind the last finished frame lie unfinished bytes; 'area repair' clears them";
 
 /// An area that a file keeps, whose log has no fault.
@@ -25,7 +22,7 @@ pub struct Kept {
 /// Takes each record of an area, with the place of its frame, and gives where the log ends.
 pub fn walk(area: &[u8], mut take: impl FnMut(usize, &[u8])) -> Result<usize, Refusal> {
     let mut place = 0;
-    for record in records(area) {
+    for record in area_records(area) {
         let record = record?;
         take(place, record);
         place += 1 + record.len();
@@ -64,39 +61,35 @@ impl Kept {
     /// last store, waits until all others are safely in the file.
     pub fn append(&mut self, record: &[u8]) -> Result<usize, Box<dyn Error>> {
         let mut whole = self.bytes.clone();
-        let answer = area_append_raw(&mut whole, record, ALL);
-        if answer.number != 0 {
-            return Err(self.refused(record, answer));
-        }
+        let appended = Area::new(&mut whole).append(record);
+        let stores = appended.map_err(|refusal| self.words(record, refusal))?;
         let mut cut = self.bytes.clone();
-        area_append_raw(&mut cut, record, answer.length - 1);
+        Area::new(&mut cut).append_some(record, stores as u64 - 1)?;
         self.store(cut)?;
         self.store(whole)?;
         let place = self.end;
-        self.end += answer.length as usize;
+        self.end += stores;
         Ok(place)
     }
 
     /// Why a record is not appended.
-    fn refused(&self, record: &[u8], answer: Answer) -> Box<dyn Error> {
+    fn words(&self, record: &[u8], refusal: AppendRefusal) -> String {
         let (takes, free) = (1 + record.len(), self.bytes.len() - self.end);
-        let room = format!("no room: it takes {takes} bytes with its flag, and {free} are free");
-        match answer.number {
-            6 => room.into(),
-            8 => UNFINISHED.into(),
-            _ => Refusal::from(answer).into(),
+        match refusal {
+            AppendRefusal::NoRoom => {
+                format!("no room: it takes {takes} bytes with its flag, and {free} are free")
+            }
+            AppendRefusal::Unrepaired => UNREPAIRED.to_string(),
+            AppendRefusal::Log(refusal) | AppendRefusal::Record(refusal) => refusal.to_string(),
         }
     }
 
     /// Blanks what lies behind the last finished frame, and gives how many bytes that took.
-    pub fn repair(&mut self) -> Result<u64, Box<dyn Error>> {
+    pub fn repair(&mut self) -> Result<usize, Box<dyn Error>> {
         let mut image = self.bytes.clone();
-        let answer = area_repair_raw(&mut image, ALL);
-        if answer.number != 0 {
-            return Err(Refusal::from(answer).into());
-        }
+        let stores = Area::new(&mut image).repair()?;
         self.store(image)?;
-        Ok(answer.length)
+        Ok(stores)
     }
 
     /// Stores the bytes that differ in the image, one a write and front to back. Then they are
