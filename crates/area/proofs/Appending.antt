@@ -4,7 +4,7 @@ use Prim.Native.Nat.{ℕ, _+_, _-_, _≤_, _<_}
 use native.Mathlib.Omega.{arith}
 use native.Mathlib.Numerals.{add-one}
 use mathlib.Core.Path.{_≡_, refl, sym, ap, _∙_}
-use mathlib.Core.Bool.{Bool, true, false}
+use mathlib.Core.Bool.{Bool, true, false, cond}
 use mathlib.Core.List.{List, []}
 use lib.Dec.{leb, ltb}
 use lib.ListN.{length, getD, take, drop, drop-of-length-le}
@@ -19,9 +19,9 @@ use Rattle.laws.proofs.ExtentCase.{accepted}
 use Rattle.reader.specs.declared.Reading.{Reading}
 use Rattle.reader.specs.Answers.{readingOf}
 use Rattle.reader.proofs.Found.{was-read, missed}
-use Rattle.area_model.specs.Area.{unused, isUnused, found, appending, storeSome, appendAt, appendRead, append}
+use Rattle.area_model.specs.Area.{unused, isUnused, found, appending, storeSome, refuse, appendAt, appendRead, append}
 use Rattle.area.specs.declared.End.{End}
-use Rattle.area.specs.Shown.{endShown, Answered, Made}
+use Rattle.area.specs.Shown.{endShown, refusalAt, Answered, Made}
 use Rattle.area.proofs.Told.{end-is, faultless, faulty}
 
 -- ---- the loop of `all_unused`
@@ -39,7 +39,7 @@ module _ (s : List ℕ) (from i : ℕ) (same : every isUnused (drop i s) ≡ eve
   unfolding every
   unused-ends l = let none : drop i s ≡ [] = drop-of-length-le s l in sym (sym same ∙ rw none)
 
--- ---- the ways through `append_at`
+-- ---- the ways through `has_room` and `refusal_at`
 
 pub room-is : (area : List ℕ) (end size : ℕ) → end ≤ length area → ltb size (length area - end) ≡ leb (end + 1 + size) (length area)
 room-is area end size inside = go (ltb size (length area - end)) refl
@@ -48,28 +48,55 @@ room-is area end size inside = go (ltb size (length area - end)) refl
     go true e = let l : size < length area - end = ltb-true size (length area - end) e in sym (le-leb (end + 1 + size) (length area) (omega arith))
     go false e = let l : length area - end ≤ size = ltb-false size (length area - end) e in sym (lt-leb (end + 1 + size) (length area) (omega arith))
 
-pub room-for : (area : List ℕ) (end size : ℕ) (y : Bool) → y ≡ leb (end + 1 + size) (length area) → y ≡ true → end + 1 + size ≤ length area
-room-for area end size y e l = leb-true (end + 1 + size) (length area) (sym e ∙ l)
+module _ (area : List ℕ) (end size : ℕ) (y : Bool) (room : y ≡ leb (end + 1 + size) (length area)) where
+  pub no-room : y ≡ false → 6 ≡ refusalAt end size area
+  no-room e = let z : leb (end + 1 + size) (length area) ≡ false = sym room ∙ e in rw z
 
-module _ (area : List ℕ) (end : ℕ) (bytes : List ℕ) (size allowed : ℕ) (fits : size ≤ length bytes) (y : Bool) (room : y ≡ leb (end + 1 + size) (length area)) where
-  room-of : (z : Bool) → y ≡ z → leb (end + 1 + length (take size bytes)) (length area) ≡ z
-  room-of z e = rw (length-take-le size bytes fits) (sym room ∙ e)
+  module _ (e : y ≡ true) (b : Bool) (free : b ≡ every isUnused (drop end area)) where
+    fits : leb (end + 1 + size) (length area) ≡ true
+    fits = sym room ∙ e
 
-  pub no-room : (r : Answer) → r ≡ shown (refusal 6 0) → y ≡ false → Answered (appendAt end allowed (take size bytes) area) r area
+    pub unrepaired : b ≡ false → 8 ≡ refusalAt end size area
+    unrepaired n = let z : every isUnused (drop end area) ≡ false = sym free ∙ n in rw (fits, z)
+
+    pub free-room : b ≡ true → 0 ≡ refusalAt end size area
+    free-room h = let z : every isUnused (drop end area) ≡ true = sym free ∙ h in rw (fits, z)
+
+-- ---- the ways through `append_at`
+
+-- there is room, and all of it is unused
+record Free (area : List ℕ) (end size : ℕ) : Type 0 where
+  room : leb (end + 1 + size) (length area) ≡ true
+  unused : every isUnused (drop end area) ≡ true
+
+is-free : (area : List ℕ) (end size : ℕ) → refusalAt end size area ≡ 0 → Free area end size
+is-free area end size e = go (leb (end + 1 + size) (length area)) (every isUnused (drop end area)) refl refl e
+  where
+    go : (y z : Bool) → leb (end + 1 + size) (length area) ≡ y → every isUnused (drop end area) ≡ z → _≡_ {A = ℕ} (cond y (cond z 0 8) 6) 0 → Free area end size
+    go true true p q e = record { room = p; unused = q }
+    go true false p q e = absurd (omega arith)
+    go false z p q e = absurd (omega arith)
+
+pub room-for : (area : List ℕ) (end size x : ℕ) → x ≡ refusalAt end size area → x ≡ 0 → end + 1 + size ≤ length area
+room-for area end size x e z = leb-true (end + 1 + size) (length area) (is-free area end size (sym e ∙ z) .room)
+
+module _ (area : List ℕ) (end : ℕ) (bytes : List ℕ) (size allowed : ℕ) (fits : size ≤ length bytes) (x : ℕ) (e : x ≡ refusalAt end size area) where
+  pub stored : x ≡ 0 → (r : Answer) (stores : ℕ) (now : List ℕ) → r ≡ shown (done stores) → Made (storeSome allowed (appending end (take size bytes)) area) stores now
+      → Answered (appendAt end allowed (take size bytes) area) r now
+  unfolding appendAt storeSome
+  stored z r stores now h D =
+      let F : Free area end size = is-free area end size (sym e ∙ z) in
+      rw (length-take-le size bytes fits, F .room, F .unused) (record { answer = h ∙ ap (λ (k : ℕ). shown (done k)) (D .count); area = D .area })
+
+  pub not-stored : (x ≡ 0 → ⊥) → (r : Answer) → r ≡ shown (refusal x 0) → Answered (appendAt end allowed (take size bytes) area) r area
   unfolding appendAt
-  no-room r e n = rw (room-of false n) (record { answer = e; area = refl })
-
-  module _ (b : Bool) (free : b ≡ every isUnused (drop end area)) (l : y ≡ true) where
-    pub unrepaired : (r : Answer) → r ≡ shown (refusal 8 0) → b ≡ false → Answered (appendAt end allowed (take size bytes) area) r area
-    unfolding appendAt
-    unrepaired r e q = let z : every isUnused (drop end area) ≡ false = sym free ∙ q in rw (room-of true l, z) (record { answer = e; area = refl })
-
-    pub stored : (r : Answer) (stores : ℕ) (now : List ℕ) → r ≡ shown (done stores) → Made (storeSome allowed (appending end (take size bytes)) area) stores now
-        → b ≡ true → Answered (appendAt end allowed (take size bytes) area) r now
-    unfolding appendAt storeSome
-    stored r stores now e D q =
-        let z : every isUnused (drop end area) ≡ true = sym free ∙ q in
-        rw (room-of true l, z) (record { answer = e ∙ ap (λ (k : ℕ). shown (done k)) (D .count); area = D .area })
+  not-stored n r h = rw (length-take-le size bytes fits) (go (leb (end + 1 + size) (length area)) (every isUnused (drop end area)) e)
+    where
+      go : (y z : Bool) → x ≡ cond y (cond z 0 8) 6
+          → Answered (cond y (cond z (storeSome allowed (appending end (take size bytes)) area) (refuse 8 0 area)) (refuse 6 0 area)) r area
+      go true true e = absurd (n e)
+      go true false e = record { answer = h ∙ ap (λ (k : ℕ). shown (refusal k 0)) e; area = refl }
+      go false z e = record { answer = h ∙ ap (λ (k : ℕ). shown (refusal k 0)) e; area = refl }
 
 -- ---- the ways through `append_read`
 

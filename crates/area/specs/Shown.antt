@@ -2,9 +2,11 @@
 -- Assumes nothing.
 use Prim.Native.Nat.{ℕ, _+_}
 use mathlib.Core.Path.{_≡_}
-use mathlib.Core.Bool.{true, false, not}
+use mathlib.Core.Bool.{true, false, not, cond}
 use mathlib.Core.List.{List}
-use lib.ListN.{getD, set}
+use lib.Dec.{leb}
+use lib.ListN.{length, getD, drop, set}
+use Rattle.finite.specs.Lists.{every}
 use Rattle.finite.specs.Tests.{tick}
 use Rattle.model.specs.Answers.{Stored}
 use Rattle.answers.specs.declared.Answer.{Answer}
@@ -22,6 +24,10 @@ frameShown place (none e) = record { number = e .number; ended = true; place = e
 -- how a log ends, and where the free room starts
 abbrev pub endShown : Found → End
 endShown f = record { number = f .ending .number; place = f .ending .place; end = f .end }
+
+-- the number that `appendAt` answers for a record of so many bytes
+abbrev pub refusalAt : (end size : ℕ) → List ℕ → ℕ
+refusalAt end size area = cond (leb (end + 1 + size) (length area)) (cond (every isUnused (drop end area)) 0 8) 6
 
 -- the answer, and the area afterwards
 pub record Answered (s : Stored) (r : Answer) (now : List ℕ) : Type 0 where

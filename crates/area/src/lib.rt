@@ -8,7 +8,7 @@ ghost use Rattle.model.specs.Record.{read};
 ghost use Rattle.model.specs.Answers.{refusal};
 ghost use Rattle.answers.specs.Shown.{shown};
 ghost use Rattle.area_model.specs.Area.{isUnused, none, byReading, frameAt, found, afterStores, appending, clearing, storeSome, appendAt, appendRead, append as appended, repair as repaired};
-ghost use Rattle.area.specs.Shown.{frameShown, endShown, Answered, Made, Cleared};
+ghost use Rattle.area.specs.Shown.{frameShown, endShown, refusalAt, Answered, Made, Cleared};
 use answers::Answer;
 use case::Case;
 
@@ -172,19 +172,31 @@ fn has_room(area: &[u8], end: usize, size: usize) -> bool
     size < area.len() - end
 }
 
+// What an append of a record of so many bytes is refused with behind the end of a log without fault: 6, then 8; 0 if it isn't.
+fn refusal_at(area: &[u8], end: usize, size: usize) -> u8
+    requires { ⌜ end ≤ length (now area) ⌝ }
+    ensures { λ r. ⌜ r ≡ refusalAt end size (now (area .entry)) ⌝ }
+{
+    if has_room(area, end, size) {
+        if all_unused(area, end) {
+            return 0;
+        }
+        return UNREPAIRED;
+    }
+    NO_ROOM
+}
+
 // Appends a record of so many bytes behind the end of a log without fault: 6, 8, or 0 and the stores made.
 fn append_at(area: &mut [u8], end: usize, bytes: &[u8], size: usize, allowed: usize) -> Answer
     requires { ⌜ (size ≤ length (now bytes)) × (end ≤ length (now area)) ⌝ }
     ensures { λ r. ⌜ Answered (appendAt end allowed (take size (now (bytes .entry))) (now (area .entry))) r (now (area .exit)) ⌝ }
 {
-    if has_room(area, end, size) {
-        if all_unused(area, end) {
-            let stores = store_frame(area, end, bytes, size, allowed);
-            return answers::finished(stores);
-        }
-        return answers::refused(UNREPAIRED, 0);
+    let number = refusal_at(area, end, size);
+    if number == 0 {
+        let stores = store_frame(area, end, bytes, size, allowed);
+        return answers::finished(stores);
     }
-    answers::refused(NO_ROOM, 0)
+    answers::refused(number, 0)
 }
 
 // Appends the record at the start of the bytes: its own fault comes first.

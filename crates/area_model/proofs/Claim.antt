@@ -17,9 +17,9 @@ use Rattle.laws.proofs.ExtentCase.{Accepted, accepted}
 use Rattle.log_model.specs.Log.{noFault}
 use Rattle.area_model.specs.Area.{Frame, none, finished, frameOf, Found, endsAt, following, foundBy, foundFrom, found, refuse, append, repair}
 use Rattle.area_model.specs.Changes.{Change, appends, repairs, change, flagged, flagStored, areaAfter, flagsStored}
-use Rattle.area_model.specs.Claim.{blank, OneRecord, Survives, AreaClaim}
+use Rattle.area_model.specs.Claim.{blank, Faultless, OneRecord, Survives, AreaClaim}
 use Rattle.area_model.proofs.Frames.{found-over, frame-reads}
-use Rattle.area_model.proofs.Survival.{Faultless, unused-over, Step, step-same, step-sound, repair-stays}
+use Rattle.area_model.proofs.Survival.{unused-over, Step, step-same, step-sound, repair-stays}
 use Rattle.area_model.proofs.Refusals.{fault-answered}
 use Rattle.area_model.proofs.Room.{blank-unused}
 

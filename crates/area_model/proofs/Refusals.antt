@@ -22,7 +22,7 @@ use Rattle.laws.proofs.ExtentCase.{accepted}
 use Rattle.log_model.specs.Log.{Ending, noFault}
 use Rattle.area_model.specs.Area.{finishedFlag, isUnused, frameOf, following, foundBy, foundFrom, found, Store, appending, storeSome, refuse, unlessFault, appendAt, appendRead, append, repairing, repair}
 use Rattle.area_model.specs.Changes.{Change, appends, repairs, change}
-use Rattle.area_model.specs.Claim.{LogFault}
+use Rattle.area_model.specs.Claim.{Faultless, LogFault}
 use Rattle.area_model.proofs.Frames.{byFlag}
 
 -- ---- which faults
@@ -56,7 +56,7 @@ faults-known area b = ends-by (length area) (length area) 0 area b (omega arith)
 -- ---- they are answered
 
 -- "a log's own fault is its answer and then nothing changes"
-pub fault-answered : (area : List ℕ) (x : Change) → (found area .ending .number ≡ 0 → ⊥)
+pub fault-answered : (area : List ℕ) (x : Change) → (Faultless area → ⊥)
     → change x area ≡ refuse (found area .ending .number) (found area .ending .place) area
 unfolding append repair
 fault-answered area (appends bytes n) f = rw (ne-eqb (found area .ending .number) 0 f)
@@ -65,8 +65,8 @@ fault-answered area (repairs n) f = rw (ne-eqb (found area .ending .number) 0 f)
 -- ---- every byte is left
 
 -- where the answer is not 0, the area is as before
-pub record Leaves (area : List ℕ) (s : Stored) : Type 0 where
-  pub same : (s .answer .number ≡ 0 → ⊥) → s .buffer ≡ area
+record Leaves (area : List ℕ) (s : Stored) : Type 0 where
+  same : (s .answer .number ≡ 0 → ⊥) → s .buffer ≡ area
 
 refusal-leaves : (area : List ℕ) (number place : ℕ) → Leaves area (refuse number place area)
 refusal-leaves area number place = record { same = λ _. refl }
@@ -92,8 +92,11 @@ append-leaves area bytes end n (next c i) = go (take i bytes)
         (either-leaves area (every isUnused (drop end area)) _ _ (stores-leave area n (appending end w)) (refusal-leaves area 8 0))
         (refusal-leaves area 6 0)
 
--- a refusal leaves every byte, of an area in any state
-pub refusal-stays : (area : List ℕ) (x : Change) → Leaves area (change x area)
+change-leaves : (area : List ℕ) (x : Change) → Leaves area (change x area)
 unfolding append repair
-refusal-stays area (appends bytes n) = unless-leaves area (found area .ending) _ (append-leaves area bytes (found area .end) n (read bytes))
-refusal-stays area (repairs n) = unless-leaves area (found area .ending) _ (stores-leave area n (repairing area))
+change-leaves area (appends bytes n) = unless-leaves area (found area .ending) _ (append-leaves area bytes (found area .end) n (read bytes))
+change-leaves area (repairs n) = unless-leaves area (found area .ending) _ (stores-leave area n (repairing area))
+
+-- a refusal leaves every byte, of an area in any state
+pub refusal-stays : (area : List ℕ) (x : Change) → (change x area .answer .number ≡ 0 → ⊥) → change x area .buffer ≡ area
+refusal-stays area x = change-leaves area x .same

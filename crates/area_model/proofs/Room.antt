@@ -18,9 +18,9 @@ use Rattle.model.specs.Answers.{Stored}
 use Rattle.laws.proofs.Exact.{Refused}
 use Rattle.laws.proofs.ExactCase.{refused}
 use Rattle.area_model.specs.Area.{isUnused, found, Store, afterStores, appending, storeSome, refuse, appendAt, append, repairing, repair}
-use Rattle.area_model.specs.Claim.{blank}
+use Rattle.area_model.specs.Claim.{blank, Faultless}
 use Rattle.area_model.proofs.Stores.{stores-clearing}
-use Rattle.area_model.proofs.Survival.{Faultless, end-within, repair-is, repair-stays, step-repair}
+use Rattle.area_model.proofs.Survival.{end-within, repair-is, repair-stays, step-repair}
 
 pub blank-unused : (n : ℕ) → every isUnused (blank n) ≡ true
 unfolding every

@@ -20,13 +20,10 @@ use Rattle.model.specs.Answers.{Stored}
 use Rattle.laws.proofs.ExtentCase.{Accepted, accepted}
 use Rattle.log_model.specs.Log.{noFault}
 use Rattle.area_model.specs.Area.{unused, finishedFlag, isUnused, Found, endsAt, found, Store, afterStores, storing, flagging, appending, clearing, storeSome, refuse, appendAt, appendRead, append, repairing, repair}
+use Rattle.area_model.specs.Claim.{Faultless}
 use Rattle.area_model.specs.Changes.{Change, appends, repairs, change, flagged, flagStored}
 use Rattle.area_model.proofs.Frames.{Over, found-over, found-one, beforeAll, Split, split}
 use Rattle.area_model.proofs.Stores.{Above, above-take, above-storing, above-clearing, stores-length, stores-take, stores-append, stores-storing, storing-length, appending-length}
-
--- the log has no fault of its own
-abbrev pub Faultless : List ℕ → Type 0
-Faultless area = found area .ending .number ≡ 0
 
 -- ---- free room
 

@@ -22,6 +22,10 @@ pub record LogFault (size : ℕ) (e : Ending) : Type 0 where
   pub number : (e .number ≡ 9) ⊎ (((1 ≤ e .number) × (e .number ≤ 4)) ⊎ (e .number ≡ 23))
   pub place : e .place ≤ size
 
+-- an area whose log has no fault of its own
+abbrev pub Faultless : List ℕ → Type 0
+Faultless area = found area .ending .number ≡ 0
+
 -- bytes that are one record and nothing behind it
 pub record OneRecord (w : List ℕ) : Type 0 where
   pub case : Case
