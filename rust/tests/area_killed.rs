@@ -22,7 +22,7 @@ const PROGRAM: &str = env!("CARGO_BIN_EXE_area");
 const C: &[&str] = &["cc", "-std=c99", "-O2"];
 
 /// So many areas are filled at most until enough kills are met.
-const AREAS: usize = 400;
+const AREAS: usize = 2_000;
 
 /// What the kills met with.
 #[derive(Debug, Default)]
@@ -119,12 +119,12 @@ fn the_program_is_killed() {
     until(Killer::new(130), enough, Killer::fill);
 }
 
-/// Its stores are quick, so that few kills come between two of them; some have to.
+/// Its stores are quick, so that few kills come between two of them, some 1 in 50; one has to.
 #[test]
 fn the_c_example_is_killed() {
     let source = root().join("examples/c/area.c");
     let program = compiled(C, &source, "c_killed");
-    let enough = |met: &Met| met.kills >= 100 && met.unfinished >= 3;
+    let enough = |met: &Met| met.kills >= 100 && met.unfinished >= 1;
     until(Killer::new(131), enough, |killer| {
         killer.fill_in_c(&program)
     });
