@@ -1,0 +1,11 @@
+pub mod Worked
+pub mod Decimal
+pub mod Parts
+pub mod Outcomes
+pub mod ReadBack
+pub mod Local
+pub mod Freer
+pub mod Text
+pub mod Cases
+pub mod Moved
+pub mod WorkedCalls

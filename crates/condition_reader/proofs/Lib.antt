@@ -1,0 +1,5 @@
+pub mod Places
+pub mod Equations
+pub mod Signs
+pub mod Progress
+pub mod Cycle
