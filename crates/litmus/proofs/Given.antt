@@ -16,7 +16,8 @@ use Rattle.model.specs.Record.{read}
 use Rattle.model.specs.Written.{recordOf}
 use Rattle.model.specs.Fault.{fault}
 use Rattle.model.specs.Renumber.{renumber, fitting}
-use Rattle.model.specs.Answers.{Stored, judgement, judgeOut, judge, judgeCase, refusal, done, handed, faultless, put, putOut, write, roomIn, renumberOut, renumberRecord, renumberCase}
+use Rattle.model.specs.Answers.{Stored, judgement, judgeOut, judge, judgeCase, refusal, done, handed, faultless, underModel, put, putOut, write, roomIn, renumberOut, renumberRecord, renumberCase}
+use Rattle.condition_model.specs.Answers.{without, conditionOut, condition, conditionCase}
 use Rattle.laws.proofs.Refits.{refits, same-length}
 use Rattle.case.specs.declared.Case.{Case as Held}
 use Rattle.case.specs.Held.{caseOf, held}
@@ -193,3 +194,24 @@ module _ (model : ℕ) (h : model < 2) where
   pub judge-bad : (c : Case) (x : ℕ) → x ≡ fault c → (x ≡ 0 → ⊥) → refusal x 0 ≡ judgeCase model c
   unfolding judgeCase
   judge-bad c x e z = sym (some-model (λ w. judgeOut w (handed c)) (refusal 7 0) model h ∙ ap (judgeOut named) (handed-bad c x e z))
+
+-- a condition, by what is read or handed
+module _ (model : ℕ) (h : model < 2) (text : List ℕ) where
+  under-model : (o o′ : Out Case) → o′ ≡ o → conditionOut (modelOf (eqb model 1)) text o ≡ underModel model (λ w. conditionOut w text o′) (without (refusal 7 0))
+  under-model o o′ e = sym (some-model (λ w. conditionOut w text o′) (without (refusal 7 0)) model h ∙ ap (conditionOut (modelOf (eqb model 1)) text) e)
+
+  pub condition-done : (s : List ℕ) (R : Reading) → Found s R → conditionOut (modelOf (eqb model 1)) text (next (caseOf (R .case)) (R .length)) ≡ condition model s text
+  unfolding condition
+  condition-done s R f = ap (λ (c : Case). conditionOut (modelOf (eqb model 1)) text (next c (R .length))) (case-is f) ∙ under-model _ (read s) (f .is-read)
+
+  pub condition-missed : (s : List ℕ) (x p : ℕ) → read s ≡ stop x p → without (refusal x p) ≡ condition model s text
+  unfolding condition
+  condition-missed s x p e = under-model (stop x p) (read s) e
+
+  pub condition-good : (c : Case) (n : ℕ) → n ≡ length (recordOf c) → fault c ≡ 0 → conditionOut (modelOf (eqb model 1)) text (next c n) ≡ conditionCase model c text
+  unfolding conditionCase
+  condition-good c n l e = under-model (next c n) (handed c) (handed-good c e ∙ ap (next c) (sym l))
+
+  pub condition-bad : (c : Case) (x : ℕ) → x ≡ fault c → (x ≡ 0 → ⊥) → without (refusal x 0) ≡ conditionCase model c text
+  unfolding conditionCase
+  condition-bad c x e z = under-model (stop x 0) (handed c) (handed-bad c x e z)

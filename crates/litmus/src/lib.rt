@@ -17,11 +17,14 @@ ghost use Rattle.log_model.specs.Pieces.{judgeLog};
 ghost use Rattle.log.specs.Shown.{answerShown};
 ghost use Rattle.area_model.specs.Area.{frameAt, append as appendArea, repair as repairArea};
 ghost use Rattle.area.specs.Shown.{frameShown};
+ghost use Rattle.condition_model.specs.Answers.{condition as conditionOf, conditionCase};
+ghost use Rattle.condition.specs.Shown.{conditionShown};
 ghost use Rattle.litmus.specs.Shown.{caseShown, partShown, noPart, judgedPart, renumberedPart, bytesOf};
 ghost use Rattle.litmus.specs.Orders.{tooMany, rule11Answer};
 pub use answers::Answer;
 pub use area::Frame;
 use case::Case;
+pub use condition::ConditionAnswer;
 pub use log::JudgedLog;
 pub use log::LogAnswer;
 pub use log::judge_log;
@@ -98,6 +101,37 @@ pub fn judge_case(c: Case, model: u64) -> Answer
         return answers::judged(c, length, model == 1);
     }
     answers::refused(fault, 0)
+}
+
+// Whether a condition in text holds for a record under a model: `judge`'s answer where its number isn't 0; the text's 3, 21 or 22 and the place in it; or
+// 0 with length and finals as `judge` gives them, and whether the condition holds.
+pub fn condition(bytes: &[u8], model: u64, text: &[u8]) -> ConditionAnswer
+    ensures { λ r. ⌜ r ≡ conditionShown (conditionOf model (now (bytes .entry)) (now (text .entry))) ⌝ }
+{
+    if MODELS <= model {
+        return condition::refused(NO_MODEL, 0);
+    }
+    let reading = reader::read_case(bytes);
+    if reading.number == 0 {
+        let case = reading.case;
+        return condition::asked(case, reading.length, model == 1, text);
+    }
+    condition::refused(reading.number, reading.place)
+}
+
+// The same of a case: `judge_case`'s answer where its number isn't 0.
+pub fn condition_case(c: Case, model: u64, text: &[u8]) -> ConditionAnswer
+    ensures { λ r. ⌜ r ≡ conditionShown (conditionCase model (caseOf c) (now (text .entry))) ⌝ }
+{
+    if MODELS <= model {
+        return condition::refused(NO_MODEL, 0);
+    }
+    let fault = case::fault(c);
+    if fault == 0 {
+        let length = writer::size(c);
+        return condition::asked(c, length, model == 1, text);
+    }
+    condition::refused(fault, 0)
 }
 
 // Writes a case's record into the buffer from a place on: 3, 4 or 23 with place 0 for a bad field, then 6.
@@ -371,6 +405,13 @@ pub extern "C" fn litmus_judge(bytes: &[u8], model: u64) -> Answer
 }
 
 #[no_mangle]
+pub extern "C" fn litmus_condition(bytes: &[u8], model: u64, text: &[u8]) -> ConditionAnswer
+    ensures { λ r. ⌜ r ≡ conditionShown (conditionOf model (now (bytes .entry)) (now (text .entry))) ⌝ }
+{
+    condition(bytes, model, text)
+}
+
+#[no_mangle]
 pub extern "C" fn litmus_renumber(
     bytes: &[u8],
     threads: u64,
@@ -469,6 +510,13 @@ pub extern "C" fn litmus_case_judge(c: Case, model: u64) -> Answer
     ensures { λ r. ⌜ r ≡ shown (judgeCase model (caseOf c)) ⌝ }
 {
     judge_case(c, model)
+}
+
+#[no_mangle]
+pub extern "C" fn litmus_case_condition(c: Case, model: u64, text: &[u8]) -> ConditionAnswer
+    ensures { λ r. ⌜ r ≡ conditionShown (conditionCase model (caseOf c) (now (text .entry))) ⌝ }
+{
+    condition_case(c, model, text)
 }
 
 #[no_mangle]
