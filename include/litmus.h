@@ -44,6 +44,12 @@ enum {
     LITMUS_NAME_BYTES = 32
 };
 
+/* The most bytes of a condition's text, and how deep `~` and brackets may be nested in it. */
+enum {
+    LITMUS_CONDITION_BYTES = 512,
+    LITMUS_CONDITION_DEPTH = 16
+};
+
 /* The kinds of events. Edition 1 has no lwsync. */
 enum { LITMUS_LOAD = 0, LITMUS_STORE = 1, LITMUS_SYNC = 2, LITMUS_LWSYNC = 3 };
 
@@ -61,7 +67,8 @@ enum {
  *             0  accepted, or done
  *             1  the bytes end inside a number or the name
  *             2  a number has too many groups, or is not in its shortest form
- *             3  a number is outside its range
+ *             3  a number is outside its range; of a condition's text also: an event is no load,
+ *                or the text is too long
  *             4  a dependency is not one that the events allow or not above the one before it, a
  *                write order entry is not a store to that address or was listed before, or a pair
  *                is not above the pair before it
@@ -85,6 +92,8 @@ enum {
  *                are not in that order for every thread
  *            18  two events that a barrier orders, one before it and one after a load of a store
  *                behind it, are not in that order for every thread
+ *            21  a condition's text is outside the grammar
+ *            22  a condition's text is nested too deep
  *            23  a byte of the name is not printable (32 to 126)
  *          A sync orders any two events; an lwsync orders loads and stores, but not a store
  *          before a load.
@@ -184,6 +193,50 @@ litmus_part litmus_name(const uint8_t *record, size_t size);
 litmus_part litmus_judged_name(const uint8_t *record, size_t size, uint64_t model);
 litmus_part litmus_renumbered_name(const uint8_t *record, size_t size, uint64_t threads,
                                    uint64_t addresses, size_t room, uint64_t at);
+
+/*
+ * A condition says in text what the outcome of an accepted case may be, as in
+ *
+ *     m0=1 /\ ~(e2=0 \/ m1=3)
+ *
+ * An equation m0=1 says that address 0 holds 1 at the end, and e2=0 that event 2, a load, holds 0.
+ * A condition is terms joined by \/ (or), a term is factors joined by /\ (and), and a factor is ~
+ * (not) and a factor, a condition in brackets, or an equation. Numbers are decimal without needless
+ * zeros in front. Spaces, byte 32, may stand before, between and after tokens; m0 and e2 are one
+ * token each, and so are the two signs.
+ */
+
+/*
+ * number   0 where the case is accepted and the text is a condition on it; otherwise why not:
+ *          of the record  1 to 4, 7, 11 to 18 or 23, as litmus_judge gives it, before the text is
+ *                         looked at
+ *          of the text    3   it has more than LITMUS_CONDITION_BYTES bytes, the case does not have
+ *                             that address or has no such load, or a value is above 4294967295
+ *                         21  it is outside the grammar
+ *                         22  `~` and brackets are nested deeper than LITMUS_CONDITION_DEPTH
+ *          A 3 is the text's exactly where litmus_judge gives 0 for the same record and model.
+ * place    of the record, as litmus_judge gives it. Of the text, where its leftmost fault lies, from
+ *          the text's start: a bad number's first digit, the `~` or `(` that is too deep, or else the
+ *          first byte that can't stand there or the text's end; of a text that is too long, before
+ *          any other fault, LITMUS_CONDITION_BYTES
+ * length   as litmus_judge gives it, but 0 under the text's 3, 21 and 22
+ * finals   likewise
+ * holds    under 0, 1 where the condition holds and 0 where it does not; otherwise 0
+ */
+typedef struct {
+    uint32_t number;
+    uint64_t place;
+    uint64_t length;
+    uint32_t finals[LITMUS_ADDRESSES];
+    uint32_t holds;
+} litmus_condition_answer;
+
+/*
+ * Judges the record under a model, and says whether a condition holds for it where it is accepted.
+ * The text may be any bytes; no byte ends it. record and text may overlap, or be the same.
+ */
+litmus_condition_answer litmus_condition(const uint8_t *record, size_t size, uint64_t model,
+                                         const uint8_t *text, size_t text_size);
 
 /*
  * A log is records back to back, of both editions. It is judged under PPCs as it comes, by
@@ -380,6 +433,14 @@ litmus_answer litmus_case_write(litmus_case c, uint8_t *out, size_t room, uint64
  * length. Checked in this order: the model (7), the case (3, 4, 23), the rules.
  */
 litmus_answer litmus_case_judge(litmus_case c, uint64_t model);
+
+/*
+ * Judges the case under a model, and says whether a condition holds for it, as litmus_condition of
+ * the case's record. Checked in this order: the model (7), the case (3, 4, 23, with place 0), the
+ * rules, the text. A 3 is the text's exactly where litmus_case_judge gives 0.
+ */
+litmus_condition_answer litmus_case_condition(litmus_case c, uint64_t model, const uint8_t *text,
+                                              size_t text_size);
 
 /*
  * The case, its threads and addresses renumbered, by permutation numbers as for litmus_renumber: 0

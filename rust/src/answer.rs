@@ -74,6 +74,8 @@ pub fn meaning(number: u32) -> &'static str {
         16 => "a load holds another value than some store to its address, does not come before it, and no other store lies between",
         17 => "two events that a barrier orders, one before it and one after it on its thread, are not in that order for every thread",
         18 => "two events that a barrier orders, one before it and one after a load of a store behind it, are not in that order for every thread",
+        21 => "a condition's text is outside the grammar",
+        22 => "a condition's text is nested too deep",
         23 => "a byte of the name is not printable ASCII",
         _ => "no such number",
     }

@@ -1,6 +1,7 @@
 //! The functions of `litmus.h`.
 
-use crate::{Answer, Case, CaseAnswer, Choice, Frame, LogAnswer, Part, Rows, Tally};
+use crate::Tally;
+use crate::{Answer, Case, CaseAnswer, Choice, ConditionAnswer, Frame, LogAnswer, Part, Rows};
 
 // Not bundled, so that the wrapper itself, and a program that calls none of these, builds without
 // the archive.
@@ -40,6 +41,13 @@ extern "C" {
         room: usize,
         at: u64,
     ) -> Part;
+    pub fn litmus_condition(
+        record: *const u8,
+        size: usize,
+        model: u64,
+        text: *const u8,
+        text_size: usize,
+    ) -> ConditionAnswer;
     pub fn litmus_log_judge(
         bytes: *const u8,
         size: usize,
@@ -59,6 +67,12 @@ extern "C" {
     pub fn litmus_case_read(record: *const u8, size: usize) -> CaseAnswer;
     pub fn litmus_case_write(c: Case, out: *mut u8, room: usize, at: u64) -> Answer;
     pub fn litmus_case_judge(c: Case, model: u64) -> Answer;
+    pub fn litmus_case_condition(
+        c: Case,
+        model: u64,
+        text: *const u8,
+        text_size: usize,
+    ) -> ConditionAnswer;
     pub fn litmus_case_renumber(c: Case, threads: u64, addresses: u64) -> CaseAnswer;
     pub fn litmus_case_representative(c: Case) -> CaseAnswer;
     pub fn litmus_composite(first: u64, then: u64) -> u64;

@@ -32,7 +32,8 @@
 //! );
 //! ```
 //!
-//! A program that builds its cases itself uses [`Case`]; one that judges records as they come uses
+//! [`condition`] says whether a condition on final memory and loaded values holds. A program that
+//! builds its cases itself uses [`Case`]; one that judges records as they come uses
 //! [`Log`]; one that keeps records through a power failure uses [`Area`]. The functions ending in
 //! `_raw` take any numbers and give the library's own answers.
 
@@ -41,6 +42,7 @@ mod archive;
 mod area;
 mod case;
 mod class;
+mod condition;
 mod log;
 
 pub use answer::{meaning, Answer, CaseAnswer, Choice, Finals, Part, Refusal, Rule, Verdict};
@@ -49,6 +51,8 @@ pub use area::{AppendRefusal, Area, Frame, Records};
 pub use case::Case;
 pub use class::{compared, compared_raw, lesser, representative, representative_raw};
 pub use class::{same_class, write_representative, Lesser};
+pub use condition::TextFault;
+pub use condition::{condition, condition_raw, Asked, ConditionAnswer, ConditionRefusal};
 pub use log::{judge_log_raw, Log, LogAnswer, LogSummary, Tally};
 
 use std::fmt;
@@ -74,6 +78,10 @@ pub const EVENTS: usize = 64;
 pub const DEPENDENCIES: usize = 96;
 /// The most bytes of a name, as in `litmus.h`.
 pub const NAME_BYTES: usize = 32;
+/// The most bytes of a condition's text, as in `litmus.h`.
+pub const CONDITION_BYTES: usize = 512;
+/// How deep `~` and brackets may be nested in a condition, as in `litmus.h`.
+pub const CONDITION_DEPTH: usize = 16;
 /// The number of the first rule, as in `litmus.h`.
 pub const FIRST_RULE: u32 = 11;
 /// How many rules there are, as in `litmus.h`.
@@ -111,9 +119,13 @@ pub fn read(record: &[u8]) -> Result<usize, Refusal> {
 /// Judges the record at the front under a model.
 pub fn judge(record: &[u8], model: Model) -> Result<Verdict, Refusal> {
     let answer = judge_raw(record, model as u64);
-    // The third number of a record, which like the two before it takes one byte.
-    let addresses = || usize::from(record[2]);
-    Verdict::of(answer, addresses).ok_or(answer.into())
+    Verdict::of(answer, || addresses(record)).ok_or(answer.into())
+}
+
+/// How many addresses a readable record has: its third number, which like the two before it takes one
+/// byte.
+fn addresses(record: &[u8]) -> usize {
+    usize::from(record[2])
 }
 
 /// Writes the record, its threads and addresses renumbered by two of the 24 permutations, into

@@ -10,24 +10,31 @@ mod common;
 mod handed;
 #[path = "cases/in_turn.rs"]
 mod in_turn;
+#[path = "common/raw.rs"]
+mod raw;
 
 use built::built;
 use change::{change, fill_spare_room};
 use common::plain;
 use handed::Handed;
 use litmus::{Case, CaseAnswer};
-use ordinary::answer::{MISPLACED, MODEL, OF_READING, PERMUTATION, RANGE, ROOM, UNPRINTABLE};
-use ordinary::generate::{self, any_buffer, any_permutation};
+use ordinary::answer::{GRAMMAR, MISPLACED, MODEL, NESTING, OF_READING, PERMUTATION, RANGE};
+use ordinary::answer::{ROOM, UNPRINTABLE};
+use ordinary::condition::asked;
+use ordinary::generate::{self, any_buffer, any_permutation, any_text};
 use ordinary::judge::{PPCS, PPCW, RULES};
 use ordinary::limits::{ADDRESSES, EDITIONS, FIRST, SECOND, THREADS};
 use ordinary::permutation::COUNT;
 use ordinary::random::Random;
-use ordinary::read;
 use ordinary::tally::{edition_name, stated_edition, Tally};
+use ordinary::{read, Answer};
+use raw::raw;
 
 const INPUTS: usize = 50_000;
 /// The most events of a case that the other implementation is asked for the representative of.
 const FEW_EVENTS: usize = 24;
+/// The heading of conditions on accepted cases.
+const TEXTS: &str = "conditions on accepted cases";
 /// The heading of representatives that are the case itself, 0, or another one, 1.
 const MOVED: &str = "representatives that are another case";
 
@@ -62,13 +69,28 @@ impl Calls {
             let answer = plain(case.judge_raw(model));
             assert_eq!(answer, handed.judge(model), "{case:?} under {model}");
             self.tally.add(heading, answer.number);
+            self.ask(case, handed, model, answer);
+        }
+    }
+
+    /// A condition, or a text near to one, of a case that is judged so.
+    fn ask(&mut self, case: &Case, handed: &Handed, model: u64, judged: Answer) {
+        let [_, heading, ..] = headings(case.edition);
+        let outcome = handed.outcome();
+        let text = any_text(&mut self.random, &outcome);
+        let answer = case.condition_raw(model, &text);
+        let expected = raw(asked(judged, || outcome, &text));
+        assert_eq!(answer, expected, "{case:?} under {model}: {text:?}");
+        match judged.number {
+            0 => self.tally.add(TEXTS, answer.number),
+            number => self.tally.add(heading, number),
         }
     }
 
     /// With just enough room and a byte too few, at the front, further on and past the end, and into
     /// any buffer.
     fn write(&mut self, case: &Case, handed: &Handed) {
-        let [_, heading, ..] = headings(case.edition);
+        let [_, _, heading, ..] = headings(case.edition);
         let length = handed.bytes.len();
         let buffers = [
             (length, 0),
@@ -127,23 +149,26 @@ impl Calls {
     }
 }
 
-/// Of judging, writing, renumbering and representatives.
-fn headings(edition: u64) -> [&'static str; 4] {
+/// Of judging, conditions, writing, renumbering and representatives.
+fn headings(edition: u64) -> [&'static str; 5] {
     match u32::try_from(edition) {
         Ok(FIRST) => [
             "judging edition 1",
+            "conditions on edition 1",
             "writing edition 1",
             "renumbering edition 1",
             "representatives of edition 1",
         ],
         Ok(SECOND) => [
             "judging edition 2",
+            "conditions on edition 2",
             "writing edition 2",
             "renumbering edition 2",
             "representatives of edition 2",
         ],
         _ => [
             "judging no edition",
+            "conditions on no edition",
             "writing no edition",
             "renumbering no edition",
             "representatives of no edition",
@@ -167,16 +192,19 @@ fn any_numbers() {
     let tally = &calls.tally;
     println!("{INPUTS} cases and what they were changed to:\n{tally}");
     for edition in EDITIONS {
-        let [judging, writing, renumbering, representatives] = headings(edition.into());
+        let [judging, asking, writing, renumbering, representatives] = headings(edition.into());
         for heading in [judging, writing, renumbering] {
             tally.assert_each(heading, [0, RANGE, MISPLACED, UNPRINTABLE], 1_000);
         }
+        tally.assert_each(asking, [RANGE, MISPLACED, UNPRINTABLE], 1_000);
+        tally.assert_each(asking, RULES.chain([MODEL]), 400);
         tally.assert_each(representatives, [0, RANGE, MISPLACED, UNPRINTABLE], 400);
         tally.assert_each(judging, RULES.chain([MODEL]), 400);
         tally.assert_each(writing, [ROOM], 1_000);
         tally.assert_each(renumbering, [PERMUTATION], 1_000);
     }
     tally.assert_each(MOVED, [0, 1], 400);
+    tally.assert_each(TEXTS, [0, RANGE, GRAMMAR, NESTING], 1_000);
     for heading in headings(0) {
         tally.assert_each(heading, [RANGE], 1_000);
     }

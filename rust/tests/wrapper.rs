@@ -3,11 +3,11 @@
 use litmus::{compared, lesser, representative, same_class, write_representative};
 use litmus::{judge, judge_raw, judged_name, meaning, name, read, read_raw, renumber};
 use litmus::{Answer, Case, CaseAnswer, Lesser, Log, Model, Refusal, Rule, Tally, Verdict};
-use ordinary::answer::{FLAG, UNPRINTABLE};
+use ordinary::answer::{FLAG, GRAMMAR, UNPRINTABLE};
 use ordinary::generate;
 use ordinary::judge::RULES;
 use ordinary::limits::{most_bytes, EDITIONS, FIRST, SECOND};
-use ordinary::limits::{ADDRESSES, DEPENDENCIES, EVENTS, NAME, THREADS};
+use ordinary::limits::{ADDRESSES, DEPENDENCIES, DEPTH, EVENTS, NAME, TEXT, THREADS};
 use ordinary::random::Random;
 use ordinary::{Class, Kind};
 use std::collections::BTreeSet;
@@ -19,10 +19,10 @@ const SMALL: &[u8] = include_bytes!("../../examples/small.litmus");
 /// Here and in the header.
 #[test]
 fn every_number_has_its_own_words() {
-    let numbers = (0..=FLAG).chain(RULES).chain([UNPRINTABLE]);
+    let numbers = (0..=FLAG).chain(RULES).chain(GRAMMAR..=UNPRINTABLE);
     let words: BTreeSet<&str> = numbers.clone().map(meaning).collect();
     assert_eq!(words.len(), numbers.clone().count());
-    assert!([10, 19, 22, 24]
+    assert!([10, 19, 20, 24]
         .iter()
         .all(|&n| !words.contains(meaning(n))));
     for number in numbers {
@@ -48,13 +48,15 @@ fn limits_of_records() {
 
 /// Here and in the header.
 #[test]
-fn limits_of_cases() {
+fn limits_of_cases_and_conditions() {
     for (name, most, ours) in [
         ("THREADS", THREADS, litmus::THREADS),
         ("ADDRESSES", ADDRESSES, litmus::ADDRESSES),
         ("EVENTS", EVENTS, litmus::EVENTS),
         ("DEPENDENCIES", DEPENDENCIES, litmus::DEPENDENCIES),
         ("NAME_BYTES", NAME, litmus::NAME_BYTES),
+        ("CONDITION_BYTES", TEXT, litmus::CONDITION_BYTES),
+        ("CONDITION_DEPTH", DEPTH, litmus::CONDITION_DEPTH),
     ] {
         assert_eq!(ours, most, "{name}");
         let line = format!("    LITMUS_{name} = {most}");

@@ -20,6 +20,10 @@ pub const MODEL: u32 = 7;
 pub const UNREPAIRED: u32 = 8;
 /// A frame's flag is neither `00` nor `FF`.
 pub const FLAG: u32 = 9;
+/// A condition's text is outside the grammar.
+pub const GRAMMAR: u32 = 21;
+/// A condition is nested too deep.
+pub const NESTING: u32 = 22;
 /// A byte of the name is not printable.
 pub const UNPRINTABLE: u32 = 23;
 

@@ -1,6 +1,7 @@
 //! Random cases and records for the tests and the benchmark.
 
 mod calls;
+mod conditions;
 mod damage;
 mod logs;
 mod names;
@@ -9,6 +10,7 @@ mod sparse;
 mod tied;
 
 pub use calls::{any_buffer, any_permutation};
+pub use conditions::{any_text, condition_text, text_of_length};
 pub use damage::damaged;
 pub use logs::{any_records, pieces, record_of, refused, short_records};
 pub use names::{every_byte_of_a_name, printable};

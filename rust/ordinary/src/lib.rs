@@ -7,6 +7,7 @@
 pub mod answer;
 pub mod area;
 pub mod case;
+pub mod condition;
 pub mod generate;
 pub mod judge;
 pub mod limits;

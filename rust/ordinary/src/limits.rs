@@ -26,6 +26,11 @@ pub const PRINTABLE: RangeInclusive<u8> = 32..=126;
 /// Most groups of seven bits in a number.
 pub const GROUPS: usize = 5;
 
+/// Most bytes of a condition's text.
+pub const TEXT: usize = 512;
+/// How deep a condition may be nested, counting `~` and brackets.
+pub const DEPTH: usize = 16;
+
 /// Greatest count of a log's records.
 pub const COUNT: u32 = u32::MAX;
 

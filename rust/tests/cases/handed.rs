@@ -4,6 +4,7 @@
 use crate::built::built;
 use litmus::Case;
 use ordinary::answer::{FORM, MISPLACED, MODEL, RANGE, UNPRINTABLE};
+use ordinary::condition::Outcome;
 use ordinary::judge::{judge_case, PPCS};
 use ordinary::limits::{ADDRESSES, DEPENDENCIES, EVENTS, NAME, SECOND, THREADS};
 use ordinary::renumber::renumber_case;
@@ -40,6 +41,17 @@ impl Handed {
             Ok(case) => judge_case(case, model),
             Err(_) if model > PPCS => Answer::refused(MODEL),
             Err(fault) => Answer::refused(*fault),
+        }
+    }
+
+    /// What the case's outcome is, or if it has a fault, some other case's.
+    pub fn outcome(&self) -> Outcome {
+        match &self.case {
+            Ok(case) => Outcome::new(case),
+            Err(_) => Outcome {
+                finals: vec![0],
+                loaded: Vec::new(),
+            },
         }
     }
 
