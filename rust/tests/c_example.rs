@@ -7,7 +7,7 @@ mod lines;
 
 use compile::{compiled, root, temporary};
 use lines::lines;
-use litmus::{Case, CaseAnswer, Choice, Frame, LogAnswer, Tally};
+use litmus::{Case, CaseAnswer, Choice, ConditionAnswer, Frame, LogAnswer, Tally};
 use ordinary::generate::any_records;
 use ordinary::random::Random;
 use std::fs::{self, File};
@@ -121,6 +121,46 @@ fn files_two_records() {
         let found = said(Command::new(&program).args(files));
         assert_eq!(found, (String::new(), errors.to_string(), false));
     }
+}
+
+/// The number and the place of a text's fault, or of a record's; the text of the last is too long to
+/// be shown.
+fn asks_a_condition(compiler: &[&str], name: &str) {
+    let program = compiled(compiler, &root().join("examples/c/condition.c"), name);
+    let both = |answer: &str| format!("PPCw: {answer}\nPPCs: {answer}\n");
+    let long = "m0=1 ".repeat(200);
+    for (text, file, lines) in [
+        (
+            r"e2=0 /\ e5=0",
+            "dekker.litmus",
+            "PPCw: holds\nPPCs: not possible, rule 16\n".to_string(),
+        ),
+        ("m0=1", "small.litmus", both("holds")),
+        ("m0=0", "small.litmus", both("does not hold")),
+        (
+            r"m0=1 /m0=1",
+            "small.litmus",
+            both("text refused with 21\n    m0=1 /m0=1\n          ^"),
+        ),
+        (
+            "e0=1",
+            "small.litmus",
+            both("text refused with 3\n    e0=1\n     ^"),
+        ),
+        ("e0=1", "README.md", both("refused with 3 at byte 0")),
+        (&long, "small.litmus", both("text refused with 3")),
+    ] {
+        let found = said(Command::new(&program).args([text, file]));
+        assert_eq!(found, (lines, String::new(), true), "{text}");
+    }
+    let (_, errors, well) = said(Command::new(&program).arg("m0=1"));
+    assert_eq!((&errors[..], well), ("usage: condition TEXT FILE\n", false));
+}
+
+#[test]
+fn c_asks_a_condition() {
+    asks_a_condition(C, "c_condition");
+    asks_a_condition(OPTIMISED_C, "c_condition_optimised");
 }
 
 /// The case that C builds is judged and written as the example of its name is.
@@ -251,6 +291,7 @@ fn structs_lie_alike() {
     places.push(offset_of!(CaseAnswer, case));
     lines += "at(offsetof(litmus_case_answer, result));\n";
     fields!(Choice, "litmus_choice", which length);
+    fields!(ConditionAnswer, "litmus_condition_answer", number place length finals holds);
     fields!(Tally, "litmus_tally", records accepted broken);
     fields!(LogAnswer, "litmus_log_answer", number ended place length);
     fields!(Frame, "litmus_frame", number ended place at length);

@@ -52,10 +52,15 @@ fn records() {
 
 /// What an example prints that is handed a file.
 fn example(name: &str, file: &Path) -> String {
+    example_with(name, &[], file)
+}
+
+/// What an example prints that is handed some words and a file.
+fn example_with(name: &str, words: &[&str], file: &Path) -> String {
     let mut cargo = Command::new(env!("CARGO"));
     cargo.args(["run", "--quiet", "--offline", "--example", name, "--"]);
     cargo.current_dir(env!("CARGO_MANIFEST_DIR"));
-    output(cargo.arg(file))
+    output(cargo.args(words).arg(file))
 }
 
 const RULE_16: &str = "rule 16: a load holds another value than some store to its address, does not come before it, and no other store lies between";
@@ -65,6 +70,22 @@ fn a_record_is_judged() {
     assert_eq!(
         example("judge_one", &folder().join("dekker.litmus")),
         format!("Dekker\nPPCw: possible: finals 1 1\nPPCs: not possible: {RULE_16}\n")
+    );
+}
+
+#[test]
+fn a_condition_is_asked() {
+    let ask = |text, file| example_with("ask_one", &[text], &folder().join(file));
+    assert_eq!(
+        ask(r"e2=0 /\ e5=0", "dekker.litmus"),
+        format!("PPCw: holds\nPPCs: not possible: {RULE_16}\n")
+    );
+    let fault = r"the text is refused with 21: /\ or \/ has to stand here (byte 4)
+    m0=1~e1=1
+        ^";
+    assert_eq!(
+        ask("m0=1~e1=1", "small.litmus"),
+        format!("PPCw: {fault}\nPPCs: {fault}\n")
     );
 }
 

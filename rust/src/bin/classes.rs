@@ -2,14 +2,15 @@
 
 #[path = "shared/files.rs"]
 mod files;
+#[path = "shared/input.rs"]
+mod input;
 
 use files::{name_of, put, shown, status, told, wrong_call, BAD_FILE};
+use input::{bytes_of, source_of};
 use litmus::representative;
 use std::collections::BTreeMap;
 use std::env;
 use std::ffi::{OsStr, OsString};
-use std::fs;
-use std::io::{self, Read};
 use std::os::unix::ffi::OsStrExt;
 use std::process::ExitCode;
 
@@ -98,19 +99,7 @@ fn write(source: &OsStr, target: Option<&OsStr>) -> ExitCode {
 
 /// The representative of a file's record.
 fn least(file: &OsStr) -> Result<Vec<u8>, String> {
-    let place = match file == "-" {
-        true => "standard input".to_string(),
-        false => shown(file),
-    };
-    let bytes = told(&place, bytes_of(file))?;
-    told(&place, representative(&bytes))
-}
-
-fn bytes_of(file: &OsStr) -> io::Result<Vec<u8>> {
-    if file != "-" {
-        return fs::read(file);
-    }
-    let mut bytes = Vec::new();
-    io::stdin().read_to_end(&mut bytes)?;
-    Ok(bytes)
+    let source = source_of(file);
+    let bytes = told(&source, bytes_of(file))?;
+    told(&source, representative(&bytes))
 }

@@ -55,8 +55,8 @@ impl TextFault {
             _ if self.text.len() > CONDITION_BYTES => {
                 format!("a text has at most {CONDITION_BYTES} bytes")
             }
-            [.., b'm'] => "the case has no such address".to_string(),
-            [.., b'e'] => "the case has no such load".to_string(),
+            [.., b'm'] => "there is no such address".to_string(),
+            [.., b'e'] => "there is no such load".to_string(),
             _ => format!("a value is at most {}", u32::MAX),
         }
     }

@@ -115,9 +115,9 @@ fn words_of_texts() {
         ("m0=1)", 21, 4, "no bracket is open here"),
         ("(m0=1))", 21, 6, "no bracket is open here"),
         ("((m0=1)", 21, 7, "a bracket is not closed"),
-        ("m2=1", 3, 1, "the case has no such address"),
-        ("e3=1", 3, 1, "the case has no such load"),
-        ("e9=1", 3, 1, "the case has no such load"),
+        ("m2=1", 3, 1, "there is no such address"),
+        ("e3=1", 3, 1, "there is no such load"),
+        ("e9=1", 3, 1, "there is no such load"),
         ("m0= 4294967296", 3, 4, "a value is at most 4294967295"),
         ("(~(~(~(~(~(~(~(~(", 22, 16, deep),
     ] {

@@ -9,7 +9,7 @@ use std::process::ExitCode;
 
 /// The exit status where something can't be read or done, and of a wrong call.
 pub const BAD_FILE: u8 = 1;
-const BAD_USAGE: u8 = 2;
+pub const BAD_USAGE: u8 = 2;
 
 pub fn wrong_call(usage: &str) -> ExitCode {
     eprintln!("{}", usage.trim());
