@@ -9,6 +9,7 @@ pub use representative::representative;
 
 use crate::answer::{Answer, Refusal, ENDS, FORM, MISPLACED, MODEL, RANGE, UNPRINTABLE};
 use crate::case::{Class, Kind};
+use crate::condition::{asked, Asked, Outcome};
 use crate::judge::{PPCS, PPCW};
 use crate::limits::{ADDRESSES, DEPENDENCIES, EVENTS, FIRST, GROUPS, NAME, PRINTABLE, SECOND};
 use crate::limits::{THREADS, VALUE};
@@ -241,16 +242,35 @@ fn refuse<T>(number: u32, place: usize) -> Result<T, Refusal> {
 
 /// Judges the record at the front of the bytes under a model.
 pub fn judge(bytes: &[u8], model: u64) -> Answer {
-    if model != PPCW && model != PPCS {
-        return Answer::refused(MODEL);
+    match case_for(bytes, model) {
+        Ok(case) => judged(&case, model),
+        Err(refusal) => refusal.into(),
     }
-    let case = match read(bytes) {
-        Ok(case) => case,
-        Err(refusal) => return refusal.into(),
-    };
-    let number = Judged::new(&case, model).verdict();
+}
+
+/// Asks a condition of the record at the front of the bytes, under a model.
+pub fn ask(bytes: &[u8], model: u64, text: &[u8]) -> Asked {
+    match case_for(bytes, model) {
+        Ok(case) => asked(judged(&case, model), || outcome(&case), text),
+        Err(refusal) => Asked {
+            answer: refusal.into(),
+            holds: false,
+        },
+    }
+}
+
+/// The record's case, if there is such a model.
+fn case_for(bytes: &[u8], model: u64) -> Result<Case, Refusal> {
+    if model != PPCW && model != PPCS {
+        return refuse(MODEL, 0);
+    }
+    read(bytes)
+}
+
+fn judged(case: &Case, model: u64) -> Answer {
+    let number = Judged::new(case, model).verdict();
     let finals = if number == 0 {
-        finals(&case)
+        finals(case)
     } else {
         [0; ADDRESSES]
     };
@@ -258,6 +278,16 @@ pub fn judge(bytes: &[u8], model: u64) -> Answer {
         number,
         finals,
         ..Answer::done(case.length)
+    }
+}
+
+fn outcome(case: &Case) -> Outcome {
+    let events = case.events[..case.count].iter();
+    Outcome {
+        finals: finals(case)[..case.addresses].to_vec(),
+        loaded: events
+            .map(|e| (e.kind == LOAD).then_some(e.value))
+            .collect(),
     }
 }
 

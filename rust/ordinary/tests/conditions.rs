@@ -149,7 +149,7 @@ fn nesting() {
         let signs = (0..DEPTH).map(|i| if mixture >> i & 1 == 1 { '~' } else { '(' });
         let front: String = signs.collect();
         let back = ")".repeat(front.matches('(').count());
-        let truth = front.matches('~').count() % 2 == 0;
+        let truth = front.matches('~').count().is_multiple_of(2);
         assert_eq!(told(format!("{front}m0=1{back}")), Ok(truth), "{front}");
         for deeper in ["~", "(", "( x", "~ m9"] {
             assert_eq!(told(format!("{front}{deeper}")), Err((22, DEPTH)));

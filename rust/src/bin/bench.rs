@@ -1,17 +1,19 @@
 //! Times the library beside an ordinary optimised reader and judge, its two tests of rule 11 beside
-//! each other, a log and the program for logs beside the records one by one, areas beside an
-//! ordinary implementation's, and representatives beside all renumberings, on the same input in one
-//! run.
+//! each other, a log and the program for logs beside the records one by one, areas and conditions
+//! beside an ordinary implementation's, and representatives beside all renumberings, on the same
+//! input in one run.
 
 #[path = "bench/areas.rs"]
 mod areas;
 #[path = "record/built.rs"]
 mod built;
+#[path = "bench/conditions.rs"]
+mod conditions;
 
 use built::built;
-use litmus::{Log, Rows, RECORD_BYTES, RULES};
+use litmus::{condition_raw, Log, Rows, CONDITION_BYTES, RECORD_BYTES, RULES};
 use ordinary::area::{BLANK, FINISHED};
-use ordinary::judge::PPCS;
+use ordinary::judge::{PPCS, PPCW};
 use ordinary::limits::{EDITIONS, EVENTS, NAME, PRINTABLE, THREADS};
 use ordinary::permutation::COUNT;
 use ordinary::random::Random;
@@ -49,6 +51,7 @@ fn main() {
         orders(count);
     }
     log("some of each of these, in any order:", &mixed());
+    ask();
     for edition in EDITIONS {
         let cases = accepted_cases(edition, EVENTS);
         assert!(cases.iter().all(every_thread_has_events));
@@ -293,6 +296,36 @@ fn one_by_one(bytes: &[u8]) -> u64 {
         rest = &rest[answer.length as usize..];
     }
     refused
+}
+
+/// Conditions of the most bytes on a small record: the whole call, and reading and evaluating the
+/// text alone, which of ours is the whole call less judging.
+fn ask() {
+    let record = conditions::RECORD;
+    let (size, most) = (record.len(), CONDITION_BYTES);
+    println!("conditions of {most} bytes on a record of {size} bytes\n");
+    let outcome = conditions::outcome();
+    for (kind, text) in conditions::texts() {
+        println!("{kind}: {}\n", conditions::start(&text));
+        let texts = vec![text; INPUTS];
+        let unit = |time| each(time, INPUTS, "a text");
+        let call = |text: &Vec<u8>| u64::from(condition_raw(record, PPCW, text).number);
+        let whole = compare(&texts, call, |text| {
+            u64::from(rows::ask(record, PPCW, text).answer.number)
+        });
+        whole.print(["the whole call       ours", ORDINARY], unit, 2);
+
+        let judging = compare(
+            &texts,
+            |_| u64::from(litmus::judge_raw(record, PPCW).number),
+            |text| u64::from(conditions::held(text, &outcome).is_none()),
+        );
+        let text = Times {
+            first: whole.first.saturating_sub(judging.first),
+            second: judging.second,
+        };
+        text.print(["its text alone       ours", ORDINARY], unit, 2);
+    }
 }
 
 /// Rule 11 alone: the test that judging uses beside the plain one.

@@ -8,7 +8,7 @@ use ordinary::condition::{asked, parse, Asked, Outcome, Why};
 use ordinary::judge::{judge, PPCS, PPCW, RULES};
 use ordinary::limits::EDITIONS;
 use ordinary::tally::{heading, stated_edition, Tally};
-use ordinary::{read, Answer};
+use ordinary::{read, rows, Answer};
 use std::fmt;
 
 /// A record under a model, and what the other implementation says of it.
@@ -45,13 +45,14 @@ impl Subject {
         self.judged.number == 0
     }
 
-    /// Asks both, on the record and on its case, compares the answers and hands them back.
+    /// Asks both, on the record and on its case, compares all answers and hands back the one.
     pub fn compare(&self, text: &[u8]) -> Asked {
         let expected = asked(self.judged, || self.outcome.clone(), text);
         let Subject { record, model, .. } = self;
         let context = || format!("{} of {record:?} under {model}", text.escape_ascii());
         let answer = litmus::condition_raw(record, *model, text);
         assert_eq!(answer, raw(expected), "{}", context());
+        assert_eq!(rows::ask(record, *model, text), expected, "{}", context());
         if let Some(case) = &self.case {
             let answer = case.condition_raw(*model, text);
             assert_eq!(answer, raw(expected), "the case, {}", context());
