@@ -10,6 +10,8 @@ mod moved;
 mod raw;
 #[path = "conditions/typed.rs"]
 mod typed;
+#[path = "conditions/words.rs"]
+mod words;
 
 use both::{Subject, Times};
 use ordinary::condition::Why;

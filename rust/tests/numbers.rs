@@ -64,6 +64,9 @@ fn refused(bytes: &[u8], number: u32, place: usize) {
     for model in [PPCW, PPCS] {
         let judged = plain(litmus::judge_raw(bytes, model));
         assert_eq!(judged, expected, "{bytes:?}");
+        let asked = litmus::condition_raw(bytes, model, b"");
+        let found = (asked.number, asked.place as usize);
+        assert_eq!(found, (number, place), "{bytes:?}");
     }
     let mut out = [0xEE; 64];
     let renumbered = litmus::renumber_raw(bytes, 0, 0, &mut out, 0);
