@@ -195,7 +195,7 @@ litmus_part litmus_renumbered_name(const uint8_t *record, size_t size, uint64_t 
                                    uint64_t addresses, size_t room, uint64_t at);
 
 /*
- * A condition says in text what the outcome of an accepted case may be, as in
+ * A condition is a text about the outcome of an accepted case, such as
  *
  *     m0=1 /\ ~(e2=0 \/ m1=3)
  *

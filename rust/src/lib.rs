@@ -32,8 +32,8 @@
 //! );
 //! ```
 //!
-//! [`condition`] says whether a condition on final memory and loaded values holds. A program that
-//! builds its cases itself uses [`Case`]; one that judges records as they come uses
+//! [`condition`] says whether a condition on final memory and loaded values holds for a record. A
+//! program that builds its cases itself uses [`Case`]; one that judges records as they come uses
 //! [`Log`]; one that keeps records through a power failure uses [`Area`]. The functions ending in
 //! `_raw` take any numbers and give the library's own answers.
 
