@@ -4,7 +4,7 @@
 mod command;
 
 use command::{examples, folder, run};
-use litmus::{condition, Asked, Model};
+use litmus::{condition, Asked, Model, CONDITION_BYTES, CONDITION_DEPTH};
 use ordinary::condition::ask;
 use std::collections::BTreeSet;
 use std::ffi::OsStr;
@@ -224,6 +224,9 @@ fn helps() {
     let help = String::from_utf8(help.stdout).expect("text");
     assert!(help.starts_with("usage: condition [--model MODEL] TEXT [FILE..]\n"));
     assert!(help.lines().all(|line| line.len() <= 80), "{help}");
+    let words = help.split_whitespace().collect::<Vec<_>>().join(" ");
+    assert!(words.contains(&format!("at most {CONDITION_BYTES} bytes")));
+    assert!(words.contains(&format!("nested at most {CONDITION_DEPTH} deep")));
     let wrong_calls: [&[&str]; 6] = [
         &[],
         &["--model"],

@@ -33,14 +33,18 @@ load that the case does not have. MODEL is ppcw or ppcs; without it, ppcs.
     m0=1 \\/ e2=0       or
     ~(m0=1 \\/ e2=0)    brackets
 
-Spaces may stand everywhere but within m0 or e2. Numbers are decimal, without
-needless zeros in front. TEXT has at most 512 bytes, with ~ and brackets nested
-at most 16 deep. If it is no condition on any case, no FILE is read.
+Spaces may stand between tokens; m0, e2, /\\ and \\/ are one token each. Numbers
+are decimal, without needless zeros in front. TEXT has at most 512 bytes, with
+~ and brackets nested at most 16 deep. If it is no condition on any case, no
+FILE is read.
+
+What lies behind a record that can't be read is left aside. In a file's name a
+byte that is not printable is shown as \\x and two digits, a space as \\x20 and a
+backslash as two.
 
 The exit status is 0 if the condition holds for every record; 1 if it does not
-for some, or a case is not accepted, or a file can't be read, and what is
-behind a record that can't be read is left aside; 2 if TEXT is no condition,
-or if it is called in another way.
+for some, or a case is not accepted, or something can't be read; 2 if TEXT is
+no condition, or if it is called in another way.
 ";
 
 fn main() -> ExitCode {
