@@ -320,7 +320,7 @@ pub fn ask_case(case: &Case, model: u64, text: &[u8]) -> Asked {
     asked(judge_case(case, model), || Outcome::new(case), text)
 }
 
-/// What the answer is where judging gives another one, and what the outcome is if that accepts.
+/// What a call answers where judging answers `judged`; the outcome is asked for if that accepts.
 pub fn asked(judged: Answer, outcome: impl FnOnce() -> Outcome, text: &[u8]) -> Asked {
     let mut asked = Asked {
         answer: judged,

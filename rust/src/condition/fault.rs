@@ -45,7 +45,8 @@ impl TextFault {
         }
     }
 
-    /// What stands before the place, all of which is as the grammar has it.
+    /// What stands before the place; in a text that is not too long, all of it is as the grammar has
+    /// it.
     fn before(&self) -> &[u8] {
         &self.text[..self.place]
     }

@@ -18,7 +18,7 @@ pub struct Subject {
     judged: Answer,
     /// Of the record, or if it can't be read, of some case.
     pub outcome: Outcome,
-    /// The record's case, where it takes all the bytes.
+    /// The record's case, if it can be read.
     case: Option<Case>,
 }
 
@@ -45,7 +45,7 @@ impl Subject {
         self.judged.number == 0
     }
 
-    /// Asks both, on the record and on its case, compares all answers and hands back the one.
+    /// Asks both of the record and of its case, compares the answers, and hands back the one.
     pub fn compare(&self, text: &[u8]) -> Asked {
         let expected = asked(self.judged, || self.outcome.clone(), text);
         let Subject { record, model, .. } = self;

@@ -68,7 +68,7 @@ fn words_of_texts() {
     }
 }
 
-/// The words that a text refused for such a reason begins with, if no other one's do.
+/// What the words for such a reason begin with; None where they differ by what has to stand there.
 fn words_for(why: Why) -> Option<&'static [&'static str]> {
     match why {
         Why::TooLong => Some(&["a text has at most 512 bytes"]),
@@ -82,7 +82,7 @@ fn words_for(why: Why) -> Option<&'static [&'static str]> {
     }
 }
 
-/// What the fault is shown under, which has to be the byte at its place or nothing.
+/// What stands above the caret: a byte of the text, or nothing behind its end.
 fn shown_at_the_caret(lines: &[&str]) -> Option<char> {
     let column = lines[2].find('^').expect("a caret");
     assert_eq!(lines[2].trim_start(), "^");
