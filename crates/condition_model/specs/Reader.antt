@@ -18,6 +18,7 @@ _>>_ r k = r >>= λ _. k
 abbrev pub byte : List ℕ → ℕ → ℕ
 byte s i = getD s i 256
 
+-- whether the byte x stands at a place
 abbrev pub is : (x : ℕ) → List ℕ → ℕ → Bool
 is x s at = eqb (byte s at) x
 
@@ -26,6 +27,7 @@ unfoldable pub front : (ℕ → Bool) → List ℕ → List ℕ
 front test [] = []
 front test (b ∷ s) = cond (test b) (b ∷ front test s) []
 
+-- whether a byte is a space
 abbrev pub isSpace : ℕ → Bool
 isSpace b = eqb b space
 
@@ -33,6 +35,7 @@ isSpace b = eqb b space
 unfoldable pub skipped : List ℕ → ℕ → ℕ
 skipped s at = at + length (front isSpace (drop at s))
 
+-- past the spaces
 abbrev pub skip : Reader (Unit {0})
 skip s at = next tt (skipped s at)
 
@@ -67,6 +70,7 @@ unfit (b ∷ d ∷ ds) = eqb b zeroDigit
 unfoldable pub numberOf : List ℕ → (at : ℕ) → Out ℕ
 numberOf ds at = cond (unfit ds) (stop 21 at) (next (valueBy 0 ds) (at + length ds))
 
+-- the number that stands at a place: its digits are as many as stand there
 unfoldable pub number : Reader ℕ
 number s at = numberOf (digits (drop at s)) at
 
@@ -91,6 +95,7 @@ valued test = do
   skip
   give v
 
+-- an equation whose letter was looked at
 unfoldable pub equationBy : (ℕ → Bool) → (ℕ → Bool) → (ℕ → ℕ → Factor) → Reader Factor
 equationBy test values make = do
   n ← label test
@@ -139,6 +144,7 @@ closed condition = do
   skip
   give (bracketed c)
 
+-- a negated factor, behind its `~`
 abbrev pub negated : Reader Factor → Reader Factor
 negated factor = do
   f ← factor
