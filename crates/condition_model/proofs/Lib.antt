@@ -6,6 +6,7 @@ pub mod ReadBack
 pub mod Local
 pub mod Freer
 pub mod Text
+pub mod Depth
 pub mod Cases
 pub mod Moved
 pub mod WorkedCalls

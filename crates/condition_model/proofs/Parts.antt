@@ -1,16 +1,16 @@
 -- Parts of a text: what stands from one place up to another.
 -- Assumes nothing.
 use Prim.Native.Nat.{ℕ, zero, suc, _+_, _≤_, _<_}
-use native.Mathlib.Nat.{add-zero, add-assoc}
+use native.Mathlib.Nat.{add-zero, zero-add, add-assoc}
 use native.Mathlib.Numerals.{add-one}
 use native.Mathlib.Omega.{arith}
 use mathlib.Core.Path.{_≡_, refl, sym, ap, _∙_}
 use mathlib.Core.Logic.{_⊎_, ⊎-elim}
 use mathlib.Core.Bool.{Bool, true, false, cond}
-use mathlib.Core.List.{List, [], _∷_, _++_, append-assoc}
+use mathlib.Core.List.{List, [], _∷_, _++_, append-assoc, append-nil}
 use lib.Dec.{eqb}
 use lib.ListN.{length, drop, getD, replicate, length-append, length-replicate, List·getD-eq-default}
-use lib.Seq.{drop-cons, drop-drop, getD-drop}
+use lib.Seq.{drop-cons, drop-drop, drop-length, getD-drop}
 use borrow.Author.Tests.{eqb-true}
 use Rattle.finite.specs.Lists.{All}
 use Rattle.number.proofs.Encoding.{lt-or-ge}
@@ -24,6 +24,9 @@ pub record Part (s : List ℕ) (at p : ℕ) (bs : List ℕ) : Type 0 where
 
 pub part-none : (s : List ℕ) (at : ℕ) → Part s at at []
 part-none s at = record { whole = refl; place = sym (add-zero at) }
+
+pub part-whole : (s : List ℕ) → Part s 0 (length s) s
+part-whole s = record { whole = sym (rw (drop-length s) (append-nil s)); place = sym (zero-add (length s)) }
 
 pub part-then : {s : List ℕ} {at p q : ℕ} {bs cs : List ℕ} → Part s at p bs → Part s p q cs → Part s at q (bs ++ cs)
 part-then {s} {at} {p} {q} {bs} {cs} P R = record {

@@ -16,7 +16,7 @@ use Rattle.condition_model.specs.Grammar.{mostText, mostDepth, Condition
 use Rattle.condition_model.specs.Reader.{byte, skipped, choose, conditionBy, end, wholeBy, enough, readText}
 use Rattle.condition_model.specs.Faults.{Told, NoLoad, Completed, Alike, AlikeAt}
 use Rattle.condition_model.proofs.Decimal.{decimal-low}
-use Rattle.condition_model.proofs.Parts.{Part, inside, part-then, part-skip, gap}
+use Rattle.condition_model.proofs.Parts.{Part, inside, part-whole, part-then, part-skip, gap}
 use Rattle.condition_model.proofs.Outcomes.{Usable, Fresh, Cut, Took, Runs, SpeltC, outcome-C, padded-then}
 use Rattle.condition_model.proofs.ReadBack.{split, padded-split, padded-long, reads-spaces, begins-C, EndsC, reads-C}
 use Rattle.condition_model.proofs.Local.{Local, skip-alike, local-C}
@@ -32,8 +32,7 @@ ends-text s =
 pub whole-reads : (w : Ranges) (s : List ℕ) (c : Condition) (n f : ℕ) → Spells s c → FitsC w n c → 3 * length s + 3 ≤ f → wholeBy f w n s 0 ≡ next c (length s)
 unfolding wholeBy end
 whole-reads w s c n f S F l =
-    let P : Part s 0 (length s) (spaces (S .before) ++ S .rest) = record { whole = S .text ∙ sym (rw (drop-length s) (append-nil _)); place = ap length (S .text) ∙ sym (zero-add _) } in
-    let (A, B) = split (spaces (S .before)) (S .rest) P in
+    let (A, B) = split (spaces (S .before)) (S .rest) (subst (Part s 0 (length s)) (S .text) (part-whole s)) in
     let long : length s ≡ length (spaces (S .before)) + length (S .rest) = ap length (S .text) ∙ length-append (spaces (S .before)) (S .rest) in
     rw (
       reads-spaces (S .before) A (begins-C c (S .tokens) B),
@@ -50,7 +49,7 @@ pub too-long : (w : Ranges) (s : List ℕ) → mostText < length s → readText 
 unfolding readText
 too-long w s l = rw (lt-ltb mostText (length s) l)
 
-by-length : (w : Ranges) (s : List ℕ) → length s ≤ mostText → readText w s ≡ wholeBy enough w mostDepth s 0
+pub by-length : (w : Ranges) (s : List ℕ) → length s ≤ mostText → readText w s ≡ wholeBy enough w mostDepth s 0
 unfolding readText
 by-length w s l = rw (le-ltb mostText (length s) l)
 

@@ -5,3 +5,4 @@ pub mod Answers
 pub mod Worked
 pub mod Faults
 pub mod WorkedCalls
+pub mod Mixtures
