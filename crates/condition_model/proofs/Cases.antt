@@ -2,12 +2,12 @@
 -- Assumes nothing.
 use Prim.Native.Nat.{ℕ, zero, suc, _+_, _≤_, _<_}
 use native.Mathlib.Omega.{arith}
-use mathlib.Core.Path.{_≡_, refl, sym, ap, _∙_, subst}
+use mathlib.Core.Path.{_≡_, refl, ap}
 use mathlib.Core.Logic.{_⊎_, inl, inr, ⊎-elim, _↔_}
 use mathlib.Core.Bool.{Bool, true, false}
-use mathlib.Core.List.{List, []}
-use lib.Dec.{eqb, ltb}
-use lib.ListN.{length, getD, List·getD-eq-default}
+use mathlib.Core.List.{List}
+use lib.Dec.{eqb}
+use lib.ListN.{length, List·getD-eq-default}
 use borrow.Author.Tests.{lt-ltb}
 use Rattle.number.specs.Number.{Bytes}
 use Rattle.number.specs.Reader.{Out, stop, next}
@@ -16,15 +16,15 @@ use Rattle.model.specs.Limits.{mostEvents}
 use Rattle.model.specs.Case.{Case, Event, noEvent, load}
 use Rattle.model.specs.Rules.{Model, PPCw, PPCs, kind, isLoad, verdict}
 use Rattle.model.specs.Record.{read}
-use Rattle.model.specs.Answers.{Answer, refusal, handed, judgement, judgeOut, underModel, judge, judgeCase}
+use Rattle.model.specs.Answers.{refusal, handed, judgement, judgeOut, underModel, judge, judgeCase}
 use Rattle.model.specs.Fits.{Fits}
-use Rattle.condition_model.specs.Grammar.{mostText, mostDepth, Condition, decimal, Spells, Accepted}
+use Rattle.condition_model.specs.Grammar.{mostText, mostDepth, Condition, decimal, Accepted}
 use Rattle.condition_model.specs.Reader.{readText}
 use Rattle.condition_model.specs.Faults.{Told, NoLoad, Completed, AlikeAt}
-use Rattle.condition_model.specs.Truth.{truth, ranges}
-use Rattle.condition_model.specs.Answers.{ConditionAnswer, without, byText, byVerdict, conditionOut, condition, conditionCase}
+use Rattle.condition_model.specs.Truth.{ranges}
+use Rattle.condition_model.specs.Answers.{without, byText, byVerdict, conditionOut, condition, conditionCase}
 use Rattle.condition_model.proofs.Decimal.{decimal-two}
-use Rattle.condition_model.proofs.Outcomes.{Fresh, Numeral, Usable}
+use Rattle.condition_model.proofs.Outcomes.{Usable}
 use Rattle.condition_model.proofs.Text.{accepted, accepted-only, completed, leftmost}
 
 -- ---- what is read of a text
@@ -78,10 +78,10 @@ module _ (c : Case) (F : Fits c) where
       → Told (ranges c) s x p × (Completed (ranges c) s p (5 + mostDepth) ⊎ NoLoad (ranges c) s p)
   text-completed s x p l h = completed (ranges c) s usable-case x p l h
 
-  -- a text that is alike up to a fault is refused alike, and so spells nothing that the case allows
-  pub text-leftmost : (s t : List ℕ) (x p : ℕ) → Bytes s → length s ≤ mostText → length t ≤ mostText → readText (ranges c) s ≡ stop x p → AlikeAt s t p
-      → readText (ranges c) t ≡ stop x p
-  text-leftmost s t x p bytes l m h A = leftmost (ranges c) s t usable-case x p bytes l m h A
+-- a text that is alike up to a fault is refused alike, and so spells nothing that the case allows
+pub text-leftmost : (c : Case) (s t : List ℕ) (x p : ℕ) → Bytes s → length s ≤ mostText → length t ≤ mostText → readText (ranges c) s ≡ stop x p → AlikeAt s t p
+    → readText (ranges c) t ≡ stop x p
+text-leftmost c s t x p bytes l m h A = leftmost (ranges c) s t x p bytes l m h A
 
 -- ---- what the calls answer
 

@@ -3,8 +3,8 @@ pub mod Decimal
 pub mod Parts
 pub mod Outcomes
 pub mod ReadBack
-pub mod Local
-pub mod Freer
+pub mod Follows
+pub mod Progress
 pub mod Text
 pub mod Depth
 pub mod Cases

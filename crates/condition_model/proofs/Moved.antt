@@ -2,33 +2,32 @@
 -- Assumes nothing.
 use Prim.Native.Nat.{ℕ, zero, suc, _≤_}
 use native.Mathlib.Omega.{arith}
-use mathlib.Core.Path.{_≡_, refl, sym, ap, ap₂, _∙_, subst}
+use mathlib.Core.Path.{_≡_, refl, sym, ap, ap₂, _∙_}
 use mathlib.Core.Bool.{Bool, true, false, not, cond, _&&_, _||_}
 use mathlib.Core.List.{List, [], _∷_, _++_}
 use lib.Dec.{T, eqb}
 use lib.ListN.{length, take, drop}
-use Rattle.finite.proofs.Tests.{and-left, and-right}
 use Rattle.number.specs.Number.{Bytes}
-use Rattle.number.specs.Reader.{Out, stop, next}
+use Rattle.number.specs.Reader.{next}
 use Rattle.permutation.specs.Permutation.{image, fits}
 use Rattle.permutation.proofs.Laws.{image-identity, fits-ltb, fits-identity, fits-composite}
-use Rattle.model.specs.Case.{Case, Event, noEvent, load}
-use Rattle.model.specs.Rules.{Model, kind, value, isLoad, final}
+use Rattle.model.specs.Case.{Case, Event, load}
+use Rattle.model.specs.Rules.{kind, value, isLoad, final}
 use Rattle.model.specs.Record.{read}
 use Rattle.model.specs.Written.{recordOf}
 use Rattle.model.specs.Renumber.{relabel, renumber}
-use Rattle.model.specs.Answers.{Answer, refusal, room, judge, judgeCase}
+use Rattle.model.specs.Answers.{Answer, room, judge}
 use Rattle.model.specs.Fits.{Fits}
-use Rattle.model.specs.Calls.{Call, judging, renumbering, judgingCase, renumberingCase, recordAfter, Composed, start, compose, entered, composedAfter, movedAnswer, ruled, Claim}
+use Rattle.model.specs.Calls.{Call, judging, renumbering, judgingCase, renumberingCase, recordAfter, Composed, start, compose, entered, composedAfter, movedAnswer, ruled}
 use Rattle.laws.proofs.ReadBack.{read-back}
-use Rattle.laws.proofs.ExactCase.{Readable, readable, readable-back}
+use Rattle.laws.proofs.ExactCase.{Readable, readable}
 use Rattle.laws.proofs.Renumbered.{event-at, final-moves}
 use Rattle.laws.proofs.Refits.{refits}
-use Rattle.laws.proofs.Claim.{Fitting, judging-gives, judging-case, claim}
+use Rattle.laws.proofs.Claim.{Fitting, judging-gives, claim}
 use Rattle.condition_model.specs.Grammar.{mostText, mostDepth, Condition, Condition.aTerm, Condition.orElse, Term, Term.aFactor, Term.andAlso, Factor, Factor.negation, Factor.bracketed, Factor.memoryIs, Factor.loadIs, Spells, Ranges, FitsC, FitsT, FitsF, Accepted}
 use Rattle.condition_model.specs.Reader.{readText}
 use Rattle.condition_model.specs.Truth.{truthC, truthT, truthF, truth, ranges, movedC, movedT, movedF}
-use Rattle.condition_model.specs.Answers.{ConditionAnswer, without, byText, condition, conditionCase, movedCondition}
+use Rattle.condition_model.specs.Answers.{condition, movedCondition}
 use Rattle.condition_model.proofs.Text.{accepted}
 use Rattle.condition_model.proofs.Cases.{own-first, by-text}
 

@@ -4,17 +4,16 @@
 use Prim.Native.Nat.{ℕ, zero, suc, _+_, _≤_, _<_}
 use native.Mathlib.Nat.{le-refl}
 use native.Mathlib.Omega.{arith}
-use mathlib.Core.Path.{_≡_, refl, sym, ap, _∙_, subst}
+use mathlib.Core.Path.{_≡_, refl, sym, ap, _∙_}
 use mathlib.Core.Logic.{_⊎_, inl, inr, ⊎-elim}
 use mathlib.Core.Bool.{Bool, true, false, cond}
 use mathlib.Core.List.{List, [], _∷_, _++_, append-assoc, append-nil}
-use lib.Dec.{eqb}
 use lib.ListN.{length, drop, length-append}
 use borrow.Author.Tests.{eqb-true}
 use Rattle.number.specs.Reader.{Out, stop, next, Reader, give, onward, unless, tested}
 use Rattle.condition_model.specs.Grammar.{Condition, Condition.aTerm, Condition.orElse, Term, Term.aFactor, Term.andAlso, Factor, Factor.negation, Factor.bracketed, Factor.memoryIs, Factor.loadIs, opening, closing, slash, equals, backslash, letterE, letterM, tilde, decimal, equation, spaces, tokensC, tokensT, tokensF, Padded, Ranges, FitsC, FitsT, FitsF}
 use Rattle.condition_model.specs.Reader.{byte, is, isDigit, skipped, sign, digits, valueBy, unfit, numberOf, number, numberIn, label, valued, equationBy, choose, ifByte, equationAt, nested, behindSign, joined, closed, negated, conditionBy, termBy, factorBy}
-use Rattle.condition_model.specs.Faults.{Behind, BehindEquals, Wrong, OutOfRange, Told, NoLoad}
+use Rattle.condition_model.specs.Faults.{Behind, Wrong, Told, NoLoad}
 use Rattle.condition_model.proofs.Decimal.{decimal-low, digits-spelt}
 use Rattle.condition_model.proofs.Parts.{Part, part-none, part-then, part-byte, part-first, part-front, gap, part-skip, front-passes}
 

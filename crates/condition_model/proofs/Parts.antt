@@ -1,15 +1,14 @@
 -- Parts of a text: what stands from one place up to another.
 -- Assumes nothing.
-use Prim.Native.Nat.{ℕ, zero, suc, _+_, _≤_, _<_}
-use native.Mathlib.Nat.{add-zero, zero-add, add-assoc}
+use Prim.Native.Nat.{ℕ, _+_, _≤_, _<_}
+use native.Mathlib.Nat.{add-zero, zero-add}
 use native.Mathlib.Numerals.{add-one}
 use native.Mathlib.Omega.{arith}
 use mathlib.Core.Path.{_≡_, refl, sym, ap, _∙_}
 use mathlib.Core.Logic.{_⊎_, ⊎-elim}
 use mathlib.Core.Bool.{Bool, true, false, cond}
 use mathlib.Core.List.{List, [], _∷_, _++_, append-assoc, append-nil}
-use lib.Dec.{eqb}
-use lib.ListN.{length, drop, getD, replicate, length-append, length-replicate, List·getD-eq-default}
+use lib.ListN.{length, drop, getD, length-append, length-drop, length-replicate, List·getD-eq-default}
 use lib.Seq.{drop-cons, drop-drop, drop-length, getD-drop}
 use borrow.Author.Tests.{eqb-true}
 use Rattle.finite.specs.Lists.{All}
@@ -33,6 +32,13 @@ part-then {s} {at} {p} {q} {bs} {cs} P R = record {
   whole = P .whole ∙ ap (λ (l : List ℕ). bs ++ l) (R .whole) ∙ sym (append-assoc bs cs (drop q s));
   place = rw length-append (omega (arith, P .place, R .place));
 }
+
+-- a part of a text ends within it, and so does one of a byte at least, wherever it begins
+pub part-inside : {s : List ℕ} {at p : ℕ} {bs : List ℕ} → Part s at p bs → at ≤ length s → p ≤ length s
+part-inside P l = omega (arith, P .place, simp (length-append, length-drop) at (ap length (P .whole)))
+
+pub part-within : {s : List ℕ} {at p : ℕ} {bs : List ℕ} → Part s at p bs → 1 ≤ length bs → (at + 1 ≤ p) × (p ≤ length s)
+part-within P l = (omega (arith, P .place), omega (arith, P .place, simp (length-append, length-drop) at (ap length (P .whole))))
 
 -- where a byte stands the text has not ended
 pub inside : (s : List ℕ) (i : ℕ) → byte s i < 256 → i < length s

@@ -4,20 +4,18 @@ use Prim.Native.Nat.{ℕ, zero, suc, _+_, _*_, _≤_, _<_}
 use native.Mathlib.Nat.{add-zero}
 use native.Mathlib.Omega.{arith}
 use mathlib.Core.Path.{_≡_, refl, sym, ap, _∙_, subst}
-use mathlib.Core.Logic.{_⊎_, inl, inr, ⊎-elim}
-use mathlib.Core.Bool.{Bool, true, false, cond}
+use mathlib.Core.Bool.{Bool, true, false}
 use mathlib.Core.List.{List, [], _∷_, _++_, append-assoc, append-nil}
 use lib.Dec.{eqb}
-use lib.ListN.{length, drop, getD, replicate, length-append, length-replicate}
+use lib.ListN.{length, drop, getD, length-append}
 use lib.Seq.{drop-drop, drop-at, getD-drop}
-use borrow.Author.Tests.{eqb-true, eq-eqb, ne-eqb}
+use borrow.Author.Tests.{eq-eqb, ne-eqb}
 use Rattle.finite.specs.Lists.{All}
-use Rattle.finite.proofs.Tests.{is-false}
-use Rattle.number.specs.Reader.{Out, stop, next, Reader, give, onward, unless, tested}
+use Rattle.number.specs.Reader.{next, Reader, unless}
 use Rattle.condition_model.specs.Grammar.{Condition, Condition.aTerm, Condition.orElse, Term, Term.aFactor, Term.andAlso, Factor, Factor.negation, Factor.bracketed, Factor.memoryIs, Factor.loadIs, space, opening, closing, slash, equals, backslash, letterE, letterM, tilde, decimal, equation, spaces, tokensC, tokensT, tokensF, Padded, Ranges, FitsC, FitsT, FitsF}
-use Rattle.condition_model.specs.Reader.{byte, is, front, isSpace, isDigit, skipped, sign, digits, valueBy, unfit, numberOf, number, numberIn, label, valued, equationBy, choose, equationAt, nested, behindSign, joined, closed, negated, conditionBy, termBy, factorBy}
+use Rattle.condition_model.specs.Reader.{byte, front, isSpace, isDigit, skipped, sign, unfit, numberOf, number, numberIn, label, valued, equationBy, equationAt, joined, conditionBy, termBy, factorBy}
 use Rattle.condition_model.proofs.Decimal.{Digits, digit-low, decimal-digits, decimal-value, decimal-fit}
-use Rattle.condition_model.proofs.Parts.{Part, part-none, part-first}
+use Rattle.condition_model.proofs.Parts.{Part, part-first}
 
 -- ---- parts taken apart
 

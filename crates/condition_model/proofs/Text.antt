@@ -7,20 +7,19 @@ use mathlib.Core.Logic.{_⊎_, inl, inr, ⊎-elim}
 use mathlib.Core.Bool.{Bool, true, false, cond}
 use mathlib.Core.List.{List, [], _∷_, _++_, append-assoc, append-nil}
 use lib.Dec.{eqb, ltb}
-use lib.ListN.{length, take, drop, getD, replicate, length-append, length-drop, length-replicate, List·getD-eq-default}
+use lib.ListN.{length, take, drop, length-append, List·getD-eq-default}
 use lib.Seq.{take-at, drop-length}
-use borrow.Author.Tests.{eqb-true, eqb-false, eq-eqb, ne-eqb, lt-ltb, le-ltb, ltb-true, ltb-false}
+use borrow.Author.Tests.{eqb-true, eqb-false, eq-eqb, ne-eqb, lt-ltb, le-ltb, ltb-false}
 use Rattle.number.specs.Number.{Bytes}
-use Rattle.number.specs.Reader.{Out, stop, next, Reader, onward}
-use Rattle.condition_model.specs.Grammar.{mostText, mostDepth, Condition, Condition.aTerm, Condition.orElse, Term, Term.aFactor, Term.andAlso, Factor, Factor.negation, Factor.bracketed, Factor.memoryIs, Factor.loadIs, opening, closing, slash, backslash, tilde, decimal, spaces, tokensC, tokensT, tokensF, Padded, Spells, Ranges, free, FitsC, FitsT, FitsF, Accepted}
+use Rattle.number.specs.Reader.{Out, stop, next, onward}
+use Rattle.condition_model.specs.Grammar.{mostText, mostDepth, Condition, Condition.aTerm, Condition.orElse, Term, Term.aFactor, Term.andAlso, Factor, Factor.negation, Factor.bracketed, Factor.memoryIs, Factor.loadIs, opening, closing, slash, backslash, tilde, spaces, tokensC, tokensT, tokensF, Padded, Spells, Ranges, free, FitsC, FitsT, FitsF, Accepted}
 use Rattle.condition_model.specs.Reader.{byte, skipped, choose, conditionBy, end, wholeBy, enough, readText}
 use Rattle.condition_model.specs.Faults.{Told, NoLoad, Completed, Alike, AlikeAt}
-use Rattle.condition_model.proofs.Decimal.{decimal-low}
-use Rattle.condition_model.proofs.Parts.{Part, inside, part-whole, part-then, part-skip, gap}
-use Rattle.condition_model.proofs.Outcomes.{Usable, Fresh, Cut, Took, Runs, SpeltC, outcome-C, padded-then}
+use Rattle.condition_model.proofs.Parts.{Part, inside, part-whole, part-inside, part-then, part-skip, gap}
+use Rattle.condition_model.proofs.Outcomes.{Usable, Fresh, Cut, Runs, SpeltC, outcome-C}
 use Rattle.condition_model.proofs.ReadBack.{split, padded-split, padded-long, reads-spaces, begins-C, EndsC, reads-C}
-use Rattle.condition_model.proofs.Local.{Local, skip-alike, local-C}
-use Rattle.condition_model.proofs.Freer.{Freer, freer-C}
+use Rattle.condition_model.proofs.Follows.{Follows, Freer, Levels, skip-alike, follows-C, same-freer, free-freer, same-levels}
+use Rattle.condition_model.proofs.Progress.{Within, condition-within}
 
 -- ---- what the grammar spells is read
 
@@ -67,9 +66,6 @@ spelt-text w n g c bs S = record { spells = record { before = g; rest = bs; text
 before : {s : List ℕ} {p : ℕ} {bs : List ℕ} → Part s 0 p bs → take p s ≡ bs
 before {s} {p} {bs} P = ap (take p) (P .whole) ∙ take-at bs (drop p s) p (sym (zero-add _) ∙ sym (P .place))
 
-part-inside : {s : List ℕ} {p : ℕ} {bs : List ℕ} → Part s 0 p bs → p ≤ length s
-part-inside {s} {p} {bs} P = omega (arith, P .place, simp length-append at (ap length (P .whole)))
-
 -- what stands before p can be completed
 record Begun (w : Ranges) (s : List ℕ) (n p : ℕ) : Type 0 where
   inside : p ≤ length s
@@ -85,7 +81,7 @@ module _ (w : Ranges) (s : List ℕ) (U : Usable w) (n : ℕ) where
   begun {p} {bs} P F =
       let whole = part-then (part-skip s 0) P in
       record {
-        inside = part-inside whole;
+        inside = part-inside whole (omega arith);
         fresh = record {
           a = F .a;
           rest = F .rest;
@@ -142,34 +138,37 @@ bytes-get [] h i l = absurd (omega arith)
 bytes-get (b ∷ s) h zero l = h .0
 bytes-get (b ∷ s) h (suc i) l = bytes-get s (h .1) i (omega arith)
 
-module _ (w : Ranges) (s t : List ℕ) (U : Usable w) (n f : ℕ) (bytes : Bytes s) where
+-- the second reader allows more than the first, and Kept are the refusals that are no matter of that
+module _ (Kept : ℕ → Type 0) (w w′ : Ranges) (W : Freer Kept w w′) (n m f : ℕ) (levels : Levels Kept n m) (s t : List ℕ) (bytes : Bytes s) where
   -- no text that is alike up to a fault is read
-  whole-alike : (x p : ℕ) → wholeBy f w n s 0 ≡ stop x p → AlikeAt s t p → wholeBy f w n t 0 ≡ stop x p
+  whole-alike : (x p : ℕ) → Kept x → wholeBy f w n s 0 ≡ stop x p → AlikeAt s t p → wholeBy f w′ m t 0 ≡ stop x p
   unfolding wholeBy end
-  whole-alike x p h A = go (conditionBy f w n s (skipped s 0)) refl (local-C w s f n (skipped s 0)) (outcome-C w s U f n (skipped s 0)) h
+  whole-alike x p kept h A = go (conditionBy f w n s (skipped s 0)) (follows-C w w′ W f n m (skipped s 0) levels) (condition-within s w f n (skipped s 0)) h
     where
-      go : (o : Out Condition) → conditionBy f w n s (skipped s 0) ≡ o → Local (conditionBy f w n) s (skipped s 0) o → Runs w s (SpeltC w n) (5 + n) (skipped s 0) o
-          → onward (λ c p. onward (λ _ q. next c q) (end s p)) o ≡ stop x p → onward (λ c p. onward (λ _ q. next c q) (end t p)) (conditionBy f w n t (skipped t 0)) ≡ stop x p
-      go (stop y q) e L r k =
-          let same : q ≡ p = cc in
-          let A′ : AlikeAt s t q = rw same A in
-          rw (skip-alike s t 0 q (A′ .here) (L .is .0), L .is .1 t A′) k
-      go (next c q) e L r k = ended (eqb q (length s)) refl k
+      go : (o : Out Condition) → Follows Kept s t (skipped s 0) o (conditionBy f w′ m t (skipped s 0)) → Within (skipped s 0 + 1) (length s) o
+          → onward (λ c p. onward (λ _ q. next c q) (end s p)) o ≡ stop x p → onward (λ c p. onward (λ _ q. next c q) (end t p)) (conditionBy f w′ m t (skipped t 0)) ≡ stop x p
+      go (stop y q) L r k =
+          let place : q ≡ p = cc in
+          let number : y ≡ x = cc in
+          let A′ : AlikeAt s t q = rw place A in
+          rw (skip-alike s t 0 q (A′ .here) (L .is .0), L .is .1 (rw number kept) A′) k
+      go (next c q) L r k = ended (eqb q (length s)) refl k
         where
           ended : (b : Bool) → eqb q (length s) ≡ b → onward (λ _ q. next c q) (cond b (next (tt {0}) q) (stop 21 q)) ≡ stop x p
-              → onward (λ c p. onward (λ _ q. next c q) (end t p)) (conditionBy f w n t (skipped t 0)) ≡ stop x p
+              → onward (λ c p. onward (λ _ q. next c q) (end t p)) (conditionBy f w′ m t (skipped t 0)) ≡ stop x p
           ended true g k = let z : _≡_ {A = ℕ} 0 1 = cc in absurd (omega arith)
           ended false g k =
-              let same : q ≡ p = cc in
-              let A′ : Alike s t q = rw same (A .here) in
-              let most = part-inside (part-then (part-skip s 0) (r .is .part)) in
-              let l : q < length s = omega (arith, eqb-false q (length s) g) in
+              let place : q ≡ p = cc in
+              let A′ : Alike s t q = rw place (A .here) in
+              let l : q < length s = omega (arith, r .1, eqb-false q (length s) g) in
               let m : q < length t = inside t q (omega (arith, A′ q (le-refl q), bytes-get s bytes q l)) in
-              rw (skip-alike s t 0 q A′ (L .is .0), L .is .1 t A′, ne-eqb q (length t) (λ z. omega arith)) k
+              rw (skip-alike s t 0 q A′ (L .is .0), L .is .1 A′, ne-eqb q (length t) (λ z. omega arith)) k
 
 -- 02 (x): "The leftmost fault is the answer": a text that is alike up to a fault is refused alike, whatever stands further to the right
-pub leftmost : (w : Ranges) (s t : List ℕ) (U : Usable w) (x p : ℕ) → Bytes s → length s ≤ mostText → length t ≤ mostText → readText w s ≡ stop x p → AlikeAt s t p → readText w t ≡ stop x p
-leftmost w s t U x p bytes l m h A = by-length w t m ∙ whole-alike w s t U mostDepth enough bytes x p (sym (by-length w s l) ∙ h) A
+pub leftmost : (w : Ranges) (s t : List ℕ) (x p : ℕ) → Bytes s → length s ≤ mostText → length t ≤ mostText → readText w s ≡ stop x p → AlikeAt s t p → readText w t ≡ stop x p
+leftmost w s t x p bytes l m h A =
+    by-length w t m
+    ∙ whole-alike (λ x. Unit {0}) w w (same-freer _ w) mostDepth mostDepth enough (same-levels _ mostDepth) s t bytes x p tt (sym (by-length w s l) ∙ h) A
 
 -- ---- the grammar alone
 
@@ -214,39 +213,18 @@ one-reading s c d S R =
     let same : next c (length s) ≡ next d (length s) = sym (read c S) ∙ read d R in
     cc
 
-free-usable : Usable free
-free-usable = record { address = refl; value = refl; load = inl (record { a = 0; rest = decimal 0; short = rw (decimal-low 0 (omega arith)) (omega arith); holds = record { same = refl; passes = refl } }) }
-
--- a refusal that the condition's reader gives whatever numbers are allowed is that of the grammar alone
-whole-freer : (w : Ranges) (s : List ℕ) (k m p : ℕ) → Freer k (conditionBy enough w mostDepth s (skipped s 0)) (conditionBy enough free m s (skipped s 0))
-    → wholeBy enough w mostDepth s 0 ≡ stop k p → wholeBy enough free m s 0 ≡ stop k p
-unfolding wholeBy
-whole-freer w s k m p = go (conditionBy enough w mostDepth s (skipped s 0))
-  where
-    go : (o : Out Condition) → Freer k o (conditionBy enough free m s (skipped s 0)) → onward (λ c p. onward (λ _ q. next c q) (end s p)) o ≡ stop k p
-        → onward (λ c p. onward (λ _ q. next c q) (end s p)) (conditionBy enough free m s (skipped s 0)) ≡ stop k p
-    go (next c q) r h = rw (r .is) h
-    go (stop x q) r h = let e : x ≡ k = cc in let same : q ≡ p = cc in rw (r .is e, same)
-
 module _ (w : Ranges) (s t : List ℕ) (p : ℕ) (c : Condition) (bytes : Bytes s) (l : length s ≤ mostText) (m : length t ≤ mostText) (A : AlikeAt s t p) (S : Spells t c) where
-  no-condition : (k n : ℕ) → FitsC free n c → wholeBy enough free n s 0 ≡ stop k p → ⊥
-  no-condition k n F h =
-      let refused = whole-alike free s t free-usable n enough bytes k p h A in
+  -- a fault of k, and the condition that keeps n levels, which may stand for those that are left
+  no-condition : (k n : ℕ) → (3 ≡ k → ⊥) → Levels (λ x. x ≡ k) mostDepth n → FitsC free n c → readText w s ≡ stop k p → ⊥
+  no-condition k n no-3 levels F h =
+      let refused = whole-alike (λ x. x ≡ k) w free (free-freer _ w no-3) mostDepth n enough levels s t bytes k p refl (sym (by-length w s l) ∙ h) A in
       let read = whole-reads free t c n enough S F (omega arith) in
       let z : _≡_ {A = ℕ} 0 1 = cc in omega arith
 
   -- 02 (x): "anything outside the grammar is 21": no text that is alike up to a fault of 21 spells any condition, of whatever numbers and however deep
   pub outside : readText w s ≡ stop 21 p → ⊥
-  outside h =
-      no-condition 21 mostText (spelt-free t c mostText S m)
-      (whole-freer w s 21 mostText p
-      (freer-C 21 (λ e. omega arith) (λ i j. i ≤ j) (λ i j k. omega arith) (λ i k. omega arith) (λ i k e. absurd (omega arith)) w s enough mostDepth mostText (skipped s 0) (omega arith))
-      (sym (by-length w s l) ∙ h))
+  outside = no-condition 21 mostText (λ e. omega arith) (record { most = omega arith; same = λ e. absurd (omega arith) }) (spelt-free t c mostText S m)
 
   -- 02 (x): "17 is 22": every condition that a text spells that is alike up to a fault of 22 is nested too deep, whatever its numbers are
   pub too-deep : readText w s ≡ stop 22 p → FitsC free mostDepth c → ⊥
-  too-deep h F =
-      no-condition 22 mostDepth F
-      (whole-freer w s 22 mostDepth p
-      (freer-C 22 (λ e. omega arith) (λ i j. i ≡ j) (λ i j k. omega arith) (λ i k. omega arith) (λ i k e. sym k) w s enough mostDepth mostDepth (skipped s 0) refl)
-      (sym (by-length w s l) ∙ h))
+  too-deep h F = no-condition 22 mostDepth (λ e. omega arith) (same-levels _ mostDepth) F h

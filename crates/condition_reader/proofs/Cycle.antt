@@ -12,13 +12,14 @@ use Rattle.number.specs.Reader.{Out, stop, next, Reader, give, onward}
 use Rattle.condition_model.specs.Grammar.{Condition, Condition.aTerm, Condition.orElse, Term.aFactor, Term.andAlso, Factor, Factor.bracketed, Factor.negation, mostText, mostDepth, opening, closing, slash, backslash, tilde}
 use Rattle.condition_model.specs.Reader.{is, byte, skipped, sign, choose, ifByte, equationAt, nested, behindSign, closed, negated, conditionBy, termBy, factorBy, end, wholeBy, enough, readText}
 use Rattle.condition_model.specs.Truth.{truthC, truthT, truthF}
+use Rattle.condition_model.proofs.Progress.{Within, skip-within, condition-within, term-within, factor-within}
 use Rattle.condition_reader.specs.declared.ConditionRead.{ConditionRead}
 use Rattle.condition_reader.specs.declared.ConditionRead.the-variants.{Truth, Refused}
 use Rattle.condition_reader.specs.declared.Sign.{Sign}
 use Rattle.condition_reader.specs.declared.Sign.the-variants as the
 use Rattle.condition_reader.specs.Told.{mapOut, truthOut, signOut, valueIn, heldRanges, signAt, closedBy, Phrase, Phrase.disjunction, Phrase.conjunction, Phrase.single, truthBy, rank, ReadAs}
 use Rattle.condition_reader.proofs.Places.{byte-inside}
-use Rattle.condition_reader.proofs.Progress.{Within, skip-within, sign-at-within, condition-within, term-within, factor-within}
+use Rattle.condition_reader.proofs.Signs.{sign-at-within}
 
 -- fuel that is enough is a successor
 above : (P : ℕ → Type 0) (n : ℕ) → ((g : ℕ) → n ≤ g → P (suc g)) → (f : ℕ) → n + 1 ≤ f → P f
