@@ -16,20 +16,21 @@ use Rattle.model.specs.Rules.{kind, value, isLoad, final}
 use Rattle.model.specs.Record.{read}
 use Rattle.model.specs.Written.{recordOf}
 use Rattle.model.specs.Renumber.{relabel, renumber}
-use Rattle.model.specs.Answers.{Answer, room, judge}
+use Rattle.model.specs.Answers.{Answer, room, judge, judgeCase}
 use Rattle.model.specs.Fits.{Fits}
 use Rattle.model.specs.Calls.{Call, judging, renumbering, judgingCase, renumberingCase, recordAfter, Composed, start, compose, entered, composedAfter, movedAnswer, ruled}
+use Rattle.model.proofs.Faultless.{handed-on}
 use Rattle.laws.proofs.ReadBack.{read-back}
 use Rattle.laws.proofs.ExactCase.{Readable, readable}
 use Rattle.laws.proofs.Renumbered.{event-at, final-moves}
 use Rattle.laws.proofs.Refits.{refits}
-use Rattle.laws.proofs.Claim.{Fitting, judging-gives, claim}
+use Rattle.laws.proofs.Claim.{Fitting, judging-gives, judging-case, claim}
 use Rattle.condition_model.specs.Grammar.{mostText, mostDepth, Condition, Condition.aTerm, Condition.orElse, Term, Term.aFactor, Term.andAlso, Factor, Factor.negation, Factor.bracketed, Factor.memoryIs, Factor.loadIs, Spells, Ranges, FitsC, FitsT, FitsF, Accepted}
 use Rattle.condition_model.specs.Reader.{readText}
 use Rattle.condition_model.specs.Truth.{truthC, truthT, truthF, truth, ranges, movedC, movedT, movedF}
-use Rattle.condition_model.specs.Answers.{condition, movedCondition}
+use Rattle.condition_model.specs.Answers.{ConditionAnswer, without, byText, condition, conditionCase, movedCondition}
 use Rattle.condition_model.proofs.Text.{accepted}
-use Rattle.condition_model.proofs.Cases.{own-first, by-text}
+use Rattle.condition_model.proofs.Cases.{own-first, own-first-case, by-text, by-text-case}
 
 -- ---- truth and limits, by what holds of addresses and loads
 
@@ -122,6 +123,18 @@ behind-silent : (c : Case) → Fits c → (model : ℕ) (behind other text : Lis
 unfolding condition
 behind-silent c F model behind other text = rw (read-back c F behind, read-back c F other)
 
+-- y is what is answered for the text s about c, which judging answers with a
+record Answered (c : Case) (a : Answer) (s : List ℕ) (y : ConditionAnswer) : Type 0 where
+  own : (a .number ≡ 0 → ⊥) → y ≡ without a
+  told : a .number ≡ 0 → y ≡ byText c a (readText (ranges c) s)
+
+module _ (c : Case) (F : Fits c) (model : ℕ) (s : List ℕ) where
+  record-answered : (behind : List ℕ) → Answered c (judge model (recordOf c ++ behind)) s (condition model (recordOf c ++ behind) s)
+  record-answered behind = record { own = own-first model (recordOf c ++ behind) s; told = by-text model (recordOf c ++ behind) s c _ (read-back c F behind) }
+
+  case-answered : Answered c (judgeCase model c) s (conditionCase model c s)
+  case-answered = record { own = own-first-case model c s; told = by-text-case model c s _ (handed-on c F) }
+
 module _ (c : Case) (F : Fits c) (b : Composed) (fit : Fitting c F b) where
   ruled-fits : Fits (ruled c b)
   unfolding Fitting
@@ -136,20 +149,22 @@ module _ (c : Case) (F : Fits c) (b : Composed) (fit : Fitting c F b) where
     unfolding Fitting
     ruled-truth = truth-moves (b .T) (b .A) c F (fit .0) (fit .1) mostDepth t (is .fits)
 
-    pub asked-moves : (model : ℕ) (behind : List ℕ) → condition model (recordOf (ruled c b) ++ behind) s′ ≡ movedCondition (b .A) (condition model (recordOf c ++ behind) s)
-    asked-moves model behind = go (judge model (recordOf c ++ behind) .number) refl
+    answer-moves : (a a′ : Answer) (y y′ : ConditionAnswer) → a′ ≡ movedAnswer (b .A) a → Answered c a s y → Answered (ruled c b) a′ s′ y′ → y′ ≡ movedCondition (b .A) y
+    answer-moves a a′ y y′ given Y Y′ = go (a .number) refl
       where
-        given : judge model (recordOf (ruled c b) ++ behind) ≡ movedAnswer (b .A) (judge model (recordOf c ++ behind))
-        given = judging-gives c F b fit model behind
+        number : a′ .number ≡ a .number
+        number = ap (λ (x : Answer). x .number) given
 
-        go : (v : ℕ) → judge model (recordOf c ++ behind) .number ≡ v → condition model (recordOf (ruled c b) ++ behind) s′ ≡ movedCondition (b .A) (condition model (recordOf c ++ behind) s)
-        go zero e =
-            by-text model (recordOf (ruled c b) ++ behind) s′ (ruled c b) _ (read-back (ruled c b) ruled-fits behind) (ap (λ (a : Answer). a .number) given ∙ e)
-            ∙ rw (text-moves, given, ruled-truth)
-            (sym (ap (movedCondition (b .A)) (by-text model (recordOf c ++ behind) s c _ (read-back c F behind) e ∙ rw (accepted (ranges c) s t is))))
-        go (suc v) e =
-            own-first model (recordOf (ruled c b) ++ behind) s′ (λ z. omega (arith, ap (λ (a : Answer). a .number) given, e))
-            ∙ rw given (sym (ap (movedCondition (b .A)) (own-first model (recordOf c ++ behind) s (λ z. omega arith))))
+        go : (v : ℕ) → a .number ≡ v → y′ ≡ movedCondition (b .A) y
+        go zero e = Y′ .told (number ∙ e) ∙ rw (text-moves, given, ruled-truth) (sym (ap (movedCondition (b .A)) (Y .told e ∙ rw (accepted (ranges c) s t is))))
+        go (suc v) e = Y′ .own (λ z. omega (arith, number, e)) ∙ rw given (sym (ap (movedCondition (b .A)) (Y .own (λ z. omega arith))))
+
+    pub asked-moves : (model : ℕ) (behind : List ℕ) → condition model (recordOf (ruled c b) ++ behind) s′ ≡ movedCondition (b .A) (condition model (recordOf c ++ behind) s)
+    asked-moves model behind =
+        answer-moves _ _ _ _ (judging-gives c F b fit model behind) (record-answered c F model s behind) (record-answered (ruled c b) ruled-fits model s′ behind)
+
+    pub asked-moves-case : (model : ℕ) → conditionCase model (ruled c b) s′ ≡ movedCondition (b .A) (conditionCase model c s)
+    asked-moves-case model = answer-moves _ _ _ _ (judging-case c F b fit model) (case-answered c F model s) (case-answered (ruled c b) ruled-fits model s′)
 
 -- permutations that were composed fit the case
 module _ (c : Case) (F : Fits c) (size : ℕ) where
@@ -190,3 +205,10 @@ asked-after bytes h c size e xs model behind s s′ t is short spells =
     ap (λ (l : List ℕ). condition model (l ++ behind) s′) (claim bytes h c size e xs .lasts)
     ∙ asked-moves c (R .fits) b fit s s′ t is short spells model behind
     ∙ ap (movedCondition (b .A)) (behind-silent c (R .fits) model behind (drop size bytes) s ∙ ap (λ (l : List ℕ). condition model l s) (sym (R .whole)))
+
+-- and so for the case that the renumbering rule makes by then, handed without bytes
+pub asked-after-case : (c : Case) → Fits c → (size : ℕ) (xs : List Call) (model : ℕ) (s s′ : List ℕ) (t : Condition)
+    → Accepted (ranges c) s t → length s′ ≤ mostText → Spells s′ (movedC (composedAfter (c .n) (c .m) size start xs .A) t)
+    → conditionCase model (ruled c (composedAfter (c .n) (c .m) size start xs)) s′ ≡ movedCondition (composedAfter (c .n) (c .m) size start xs .A) (conditionCase model c s)
+asked-after-case c F size xs model s s′ t is short spells =
+    asked-moves-case c F (composedAfter (c .n) (c .m) size start xs) (after-fits c F size start xs (start-fits c F size)) s s′ t is short spells model
