@@ -2,17 +2,17 @@
 -- Assumes nothing.
 use Prim.Native.Nat.{ℕ, _+_, _≤_}
 use native.Mathlib.Omega.{arith}
-use mathlib.Core.Path.{refl, ap, _∙_, subst}
+use mathlib.Core.Path.{refl, subst}
 use mathlib.Core.Logic.{inl}
 use mathlib.Core.List.{List, [], _∷_, _++_}
-use lib.ListN.{length, length-append}
+use lib.ListN.{length}
 use Rattle.number.specs.Reader.{Out, stop, next}
 use Rattle.condition_model.specs.Grammar.{Condition, Condition.aTerm, Condition.orElse, Term, Term.aFactor, Term.andAlso, Factor, Factor.negation, Factor.bracketed, Factor.memoryIs, Factor.loadIs, opening, closing, slash, equals, backslash, letterE, letterM, tilde, decimal, tokensC, tokensT, tokensF, Padded, Ranges, free}
 use Rattle.condition_model.specs.Reader.{skipped, conditionBy, termBy, factorBy}
 use Rattle.condition_model.proofs.Decimal.{decimal-low}
 use Rattle.condition_model.proofs.Parts.{part-inside, part-within, part-skip}
 use Rattle.condition_model.proofs.Outcomes.{Usable, Outcome, Runs, Spelt, outcome-C, outcome-T, outcome-F}
-use Rattle.condition_model.proofs.ReadBack.{padded-split, padded-long}
+use Rattle.condition_model.proofs.ReadBack.{padded-long, padded-joined}
 use Rattle.condition_model.proofs.Follows.{Follows, Freer, follows-C, follows-T, follows-F, free-freer, same-levels}
 
 -- what is read ends at lo or behind it, and at n or before it
@@ -32,21 +32,15 @@ long-F (bracketed c) bs P = omega (arith, padded-long (opening ∷ []) (tokensC 
 long-F (memoryIs a v) bs P = omega (arith, padded-long (letterM ∷ decimal a) ((equals ∷ []) ∷ decimal v ∷ []) bs P)
 long-F (loadIs e v) bs P = omega (arith, padded-long (letterE ∷ decimal e) ((equals ∷ []) ∷ decimal v ∷ []) bs P)
 
--- operands and the sign of x and y behind them
-long-joined : (x y : ℕ) (ts us : List (List ℕ)) (bs : List ℕ) → Padded (ts ++ ((x ∷ y ∷ []) ∷ us)) bs → 1 ≤ length bs
-long-joined x y ts us bs P =
-    let (bs₁, bs₂, e, L, R) = padded-split ts ((x ∷ y ∷ []) ∷ us) bs P in
-    omega (arith, ap length e ∙ length-append bs₁ bs₂, padded-long (x ∷ y ∷ []) us bs₂ R)
-
 long-T : (t : Term) (bs : List ℕ) → Padded (tokensT t) bs → 1 ≤ length bs
 unfolding tokensC
 long-T (aFactor f) bs P = long-F f bs P
-long-T (andAlso f t) bs P = long-joined slash backslash (tokensF f) (tokensT t) bs P
+long-T (andAlso f t) bs P = omega (arith, padded-joined slash backslash (tokensF f) (tokensT t) bs P .4)
 
 long-C : (c : Condition) (bs : List ℕ) → Padded (tokensC c) bs → 1 ≤ length bs
 unfolding tokensC
 long-C (aTerm t) bs P = long-T t bs P
-long-C (orElse t c) bs P = long-joined backslash slash (tokensT t) (tokensC c) bs P
+long-C (orElse t c) bs P = omega (arith, padded-joined backslash slash (tokensT t) (tokensC c) bs P .4)
 
 -- ---- and so for what is read
 

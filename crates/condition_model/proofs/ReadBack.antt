@@ -148,6 +148,13 @@ pub record EndsC (b : ℕ) : Type 0 where
 pub padded-long : (t : List ℕ) (ts : List (List ℕ)) (bs : List ℕ) (P : Padded (t ∷ ts) bs) → length t + length (P .1) ≤ length bs
 padded-long t ts bs (g, r, e, P) = omega (arith, simp length-append at (ap length e))
 
+-- the operands on both sides of the sign of x and y
+pub padded-joined : (x y : ℕ) (ts us : List (List ℕ)) (bs : List ℕ) → Padded (ts ++ ((x ∷ y ∷ []) ∷ us)) bs
+    → (cs : List ℕ) × (ds : List ℕ) × Padded ts cs × Padded us ds × (length cs + 2 + length ds ≤ length bs)
+padded-joined x y ts us bs P =
+    let (cs, ds, e, L, R) = padded-split ts ((x ∷ y ∷ []) ∷ us) bs P in
+    (cs, R .1, L, R .3, omega (arith, ap length e ∙ length-append cs ds, padded-long (x ∷ y ∷ []) us ds R))
+
 -- operands joined by the sign of x and y
 module _ {A B : Type 0} {s : List ℕ} (x y : ℕ) (one : A → B) (more : A → B → B) (operand : Reader A) (rest : Reader B) (at p : ℕ) (a : A) where
   joined-one : operand s at ≡ next a p → eqb (byte s p) x ≡ false → joined x y one more operand rest s at ≡ next (one a) p

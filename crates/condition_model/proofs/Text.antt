@@ -17,7 +17,7 @@ use Rattle.condition_model.specs.Reader.{byte, skipped, choose, conditio
 use Rattle.condition_model.specs.Faults.{Told, NoLoad, Completed, Alike, AlikeAt}
 use Rattle.condition_model.proofs.Parts.{Part, inside, part-whole, part-inside, part-then, part-skip, gap}
 use Rattle.condition_model.proofs.Outcomes.{Usable, Fresh, Cut, Runs, SpeltC, outcome-C}
-use Rattle.condition_model.proofs.ReadBack.{split, padded-split, padded-long, reads-spaces, begins-C, EndsC, reads-C}
+use Rattle.condition_model.proofs.ReadBack.{split, padded-split, padded-long, padded-joined, reads-spaces, begins-C, EndsC, reads-C}
 use Rattle.condition_model.proofs.Follows.{Follows, Freer, Levels, skip-alike, follows-C, same-freer, free-freer, same-levels}
 use Rattle.condition_model.proofs.Progress.{Within, condition-within}
 
@@ -179,16 +179,12 @@ mutual
   free-C : (c : Condition) (n : ℕ) (bs : List ℕ) → Padded (tokensC c) bs → length bs ≤ n → FitsC free n c
   free-C (aTerm t) n bs P l = free-T t n bs P l
   free-C (orElse t c) n bs P l =
-      let (bs₁, bs₂, e, L, R) = padded-split (tokensT t) ((backslash ∷ slash ∷ []) ∷ tokensC c) bs P in
-      let long : length bs ≡ length bs₁ + length bs₂ = ap length e ∙ length-append bs₁ bs₂ in
-      (free-T t n bs₁ L (omega arith), free-C c n (R .1) (R .3) (omega (arith, padded-long (backslash ∷ slash ∷ []) (tokensC c) bs₂ R)))
+      let (cs, ds, L, R, short) = padded-joined backslash slash (tokensT t) (tokensC c) bs P in (free-T t n cs L (omega arith), free-C c n ds R (omega arith))
 
   free-T : (t : Term) (n : ℕ) (bs : List ℕ) → Padded (tokensT t) bs → length bs ≤ n → FitsT free n t
   free-T (aFactor f) n bs P l = free-F f n bs P l
   free-T (andAlso f t) n bs P l =
-      let (bs₁, bs₂, e, L, R) = padded-split (tokensF f) ((slash ∷ backslash ∷ []) ∷ tokensT t) bs P in
-      let long : length bs ≡ length bs₁ + length bs₂ = ap length e ∙ length-append bs₁ bs₂ in
-      (free-F f n bs₁ L (omega arith), free-T t n (R .1) (R .3) (omega (arith, padded-long (slash ∷ backslash ∷ []) (tokensT t) bs₂ R)))
+      let (cs, ds, L, R, short) = padded-joined slash backslash (tokensF f) (tokensT t) bs P in (free-F f n cs L (omega arith), free-T t n ds R (omega arith))
 
   free-F : (f : Factor) (n : ℕ) (bs : List ℕ) → Padded (tokensF f) bs → length bs ≤ n → FitsF free n f
   free-F (negation f) zero bs P l = absurd (omega (arith, padded-long (tilde ∷ []) (tokensF f) bs P))
