@@ -64,6 +64,8 @@ calls =
     ∷ of 1 small "m0=0" (accepted 19 (1 ∷ 0 ∷ 0 ∷ 0 ∷ [])) false
     ∷ of 1 small "e1=1 /\\ ~m0=0" (accepted 19 (1 ∷ 0 ∷ 0 ∷ 0 ∷ [])) true
     ∷ of 1 small "e1=0 \\/ m0=2" (accepted 19 (1 ∷ 0 ∷ 0 ∷ 0 ∷ [])) false
+    ∷ of 1 small "m0=1 \\/ m0=0 /\\ m0=0" (accepted 19 (1 ∷ 0 ∷ 0 ∷ 0 ∷ [])) true
+    ∷ of 1 small "(m0=1 \\/ m0=0) /\\ m0=0" (accepted 19 (1 ∷ 0 ∷ 0 ∷ 0 ∷ [])) false
     -- a store, no event, no address, no value, a needless zero, outside the grammar, too deep, too long
     ∷ of 1 small "e0=1" (refusal 3 1) false
     ∷ of 1 small "e2=1" (refusal 3 1) false
