@@ -2,93 +2,72 @@
 -- Assumes nothing.
 use Prim.Native.Nat.{ℕ, zero, suc, _≤_, _<_}
 use native.Mathlib.Omega.{arith}
-use mathlib.Core.Path.{_≡_, refl, sym, ap, _∙_, subst}
+use mathlib.Core.Path.{_≡_, refl, sym, ap, _∙_}
 use mathlib.Core.Logic.{⊎-elim}
-use mathlib.Core.Bool.{Bool, true, false, _&&_}
+use mathlib.Core.Bool.{Bool, true, false}
 use mathlib.Core.List.{List}
 use lib.Dec.{eqb, leb, ltb}
-use lib.ListN.{length, take, getD, List·getD-eq-default}
+use lib.ListN.{length, take, getD}
 use lib.Seq.{length-take-le, getD-take}
 use borrow.Author.Tests.{lt-ltb, le-ltb, ltb-true, eqb-true}
-use Rattle.finite.specs.Lists.{table}
-use Rattle.finite.proofs.Lists.{table-length, table-get, table-past, table-same, as-table}
+use Rattle.finite.proofs.Lists.{table-length, table-get, table-same, as-table}
 use Rattle.finite.proofs.Tests.{and-l, and-r}
 use Rattle.number.specs.Reader.{Out, stop, next}
 use Rattle.number.proofs.Encoding.{lt-or-ge}
 use Rattle.model.specs.Limits.{mostAddresses, mostValue}
-use Rattle.model.specs.Case.{Case, Event, noEvent, load}
-use Rattle.model.specs.Rules.{kind, value, isLoad, final, finals}
-use Rattle.model.specs.Answers.{Answer, judgement}
+use Rattle.model.specs.Case.{Case, load, bare}
+use Rattle.model.specs.Rules.{Model, value, isLoad, verdict, final, finals}
+use Rattle.model.specs.Answers.{Answer, judgement, judgeOut}
 use Rattle.case.specs.declared.Case.{Case as Held}
-use Rattle.case.specs.Held.{eventOf, eventsOf, caseOf}
+use Rattle.case.specs.Held.{caseOf}
 use Rattle.case.specs.Sound.{Sound}
-use Rattle.case.proofs.Events.{event-by}
+use Rattle.case.proofs.Shape.{shaped}
+use Rattle.rules.proofs.Means.{load-in, value-in}
 use Rattle.answers.specs.declared.Answer.{Answer as Given}
 use Rattle.answers.specs.Shown.{shown}
-use Rattle.condition_model.specs.Grammar.{mostDepth, Condition, Ranges}
+use Rattle.condition_model.specs.Grammar.{mostDepth, Condition}
 use Rattle.condition_model.specs.Reader.{readText}
 use Rattle.condition_model.specs.Truth.{truthC, truth, ranges}
-use Rattle.condition_model.specs.Answers.{without, byText, byVerdict}
+use Rattle.condition_model.specs.Answers.{byText, conditionOut}
 use Rattle.condition_model.proofs.Outcomes.{Usable}
 use Rattle.condition_model.proofs.Text.{accepted-only}
-use Rattle.condition_model.proofs.Cases.{usable}
+use Rattle.condition_model.proofs.Cases.{no-event, usable, own-under, text-under}
 use Rattle.condition_model.proofs.Moved.{truth-same}
 use Rattle.condition_reader.specs.Told.{mapOut, valueIn, isAddress, isLoad as isLoadIn, heldRanges}
-use Rattle.condition.specs.declared.ConditionAnswer.{ConditionAnswer as ConditionGiven}
 use Rattle.condition.specs.Shown.{shownWith, conditionShown, shownBy, firsts, textTruth}
 
 pub firsts-take : (k : ℕ) (xs : List ℕ) → k ≤ length xs → take k xs ≡ firsts k xs
 firsts-take k xs h =
     as-table (take k xs) 0 k (length-take-le k xs h) ∙ table-same 0 k (λ y. getD (take k xs) y 0) (λ y. getD xs y 0) (λ y l u. getD-take k xs y 0 (omega arith))
 
-event-kind : (k t a v : ℕ) → eventOf k t a v .kind ≡ k
-event-kind k t a v = event-by (λ (e : Event). e .kind ≡ k) k t a v (λ b. refl) (λ b. refl)
-
-load-value : (k t a v : ℕ) → k ≡ load → eventOf k t a v .value ≡ v
-unfolding eventOf
-load-value k t a v e = rw e
-
--- an event of the struct
-abbrev at-event : Held → ℕ → Event
-at-event h e = eventOf (getD (h .kind) e 0) (getD (h .thread) e 0) (getD (h .address) e 0) (getD (h .value) e 0)
-
 finals-at : (c : Case) (a : ℕ) → a < mostAddresses → getD (finals c) a 0 ≡ final c a
 unfolding finals
 finals-at c a l = table-get mostAddresses (final c) a 0 l
 
 module _ (h : Held) where
-  event-at : (e : ℕ) → e < h .events → getD (caseOf h .events) e noEvent ≡ at-event h e
-  unfolding caseOf eventsOf
-  event-at e l = table-get (h .events) (at-event h) e noEvent l
-
-  event-past : (e : ℕ) → h .events ≤ e → getD (caseOf h .events) e noEvent ≡ noEvent
-  unfolding caseOf eventsOf
-  event-past e l = table-past 0 (h .events) (at-event h) e noEvent l
+  as-many : h .events ≡ length (caseOf h .events)
+  unfolding caseOf
+  as-many = shaped h .k
 
   -- the loads by the kinds are those of the case
   load-same : (e : ℕ) → isLoadIn (firsts (h .events) (h .kind)) e ≡ isLoad (caseOf h) e
-  unfolding isLoadIn isLoad kind
+  unfolding isLoadIn
   load-same e =
       rw (table-length 0 (h .events) (λ i. getD (h .kind) i 0))
       (⊎-elim
-      (λ (l : e < h .events).
-      let same : getD (firsts (h .events) (h .kind)) e 0 ≡ getD (caseOf h .events) e noEvent .kind =
-      table-get (h .events) (λ i. getD (h .kind) i 0) e 0 l
-      ∙ sym (ap (λ (x : Event). x .kind) (event-at e l) ∙ event-kind (getD (h .kind) e 0) (getD (h .thread) e 0) (getD (h .address) e 0) (getD (h .value) e 0)) in
-      rw (lt-ltb e (h .events) l) (ap (λ (x : ℕ). eqb x load) same))
-      (λ (l : h .events ≤ e). rw (le-ltb e (h .events) l) (sym (ap (λ (x : Event). eqb (x .kind) load) (event-past e l))))
+      (λ (l : e < h .events). rw (lt-ltb e (h .events) l) (ap (λ (x : ℕ). eqb x load) (table-get (h .events) (λ i. getD (h .kind) i 0) e 0 l) ∙ sym (load-in h e l)))
+      (λ (l : h .events ≤ e). rw (le-ltb e (h .events) l) (sym (no-event (caseOf h) e (omega (arith, as-many)))))
       (lt-or-ge e (h .events)))
 
   -- a load's value is that of the case
   value-same : (e : ℕ) → isLoadIn (firsts (h .events) (h .kind)) e ≡ true → valueIn (firsts (h .events) (h .value)) e ≡ value (caseOf h) e
-  unfolding isLoadIn value
+  unfolding isLoadIn
   value-same e is =
       let l : e < h .events =
       ltb-true e (h .events) (rw (table-length 0 (h .events) (λ i. getD (h .kind) i 0)) at (and-l (ltb e (length (firsts (h .events) (h .kind)))) _ is)) in
       let k : getD (h .kind) e 0 ≡ load =
       sym (table-get (h .events) (λ i. getD (h .kind) i 0) e 0 l) ∙ eqb-true _ load (and-r (ltb e (length (firsts (h .events) (h .kind)))) _ is) in
-      table-get (h .events) (λ i. getD (h .value) i 0) e 0 l
-      ∙ sym (ap (λ (x : Event). x .value) (event-at e l) ∙ load-value (getD (h .kind) e 0) (getD (h .thread) e 0) (getD (h .address) e 0) (getD (h .value) e 0) k)
+      table-get (h .events) (λ i. getD (h .value) i 0) e 0 l ∙ sym (value-in h e l (ap bare k))
 
   module _ (S : Sound h) (fs : List ℕ) (is-finals : fs ≡ finals (caseOf h)) where
     address-same : (a : ℕ) → isAddress (firsts (h .addresses) fs) a ≡ ltb a (caseOf h .m)
@@ -107,8 +86,7 @@ module _ (h : Held) where
 
     case-usable : Usable (ranges (caseOf h))
     case-usable =
-        usable (caseOf h) (unfold caseOf in S .addresses-least) (unfold caseOf in S .events-most)
-        (unfold caseOf eventsOf in sym (table-length 0 (h .events) (at-event h)))
+        usable (caseOf h) (unfold caseOf in S .addresses-least) (unfold caseOf in S .events-most) (shaped h .k)
 
     -- the truth of a text by the arrays is that for the case
     text-same : (text : List ℕ) → textTruth (firsts (h .addresses) fs) (firsts (h .events) (h .kind)) (firsts (h .events) (h .value)) text ≡ mapOut (truth (caseOf h)) (readText (ranges (caseOf h)) text)
@@ -134,29 +112,18 @@ by-same : (c : Case) (a : Answer) (o : Out Condition) → shownBy (shown a) (map
 by-same c a (stop x p) = refl
 by-same c a (next t p) = refl
 
-own : (c : Case) (i : ℕ) (o : Out Condition) (v : ℕ) → (judgement c i v .number ≡ 0 → ⊥) → byVerdict c (judgement c i v) v o ≡ without (judgement c i v)
-own c i o zero n = absurd (n refl)
-own c i o (suc v) n = refl
-
-told : (c : Case) (i : ℕ) (o : Out Condition) (v : ℕ) → judgement c i v .number ≡ 0 → byVerdict c (judgement c i v) v o ≡ byText c (judgement c i v) o
-told c i o zero z = refl
-told c i o (suc v) z = absurd (omega arith)
-
--- by the verdict v: a case that is accepted, and one that is not
-module _ (h : Held) (i v : ℕ) (g : Given) (e : g ≡ shown (judgement (caseOf h) i v)) (text : List ℕ) where
-  abbrev Wanted : ConditionGiven
-  Wanted = conditionShown (byVerdict (caseOf h) (judgement (caseOf h) i v) v (readText (ranges (caseOf h)) text))
-
-  same-number : judgement (caseOf h) i v .number ≡ g .number
+-- a case that judging answers with g
+module _ (h : Held) (i : ℕ) (w : Model) (g : Given) (e : g ≡ shown (judgeOut w (next (caseOf h) i))) (text : List ℕ) where
+  same-number : judgeOut w (next (caseOf h) i) .number ≡ g .number
   same-number = sym (ap (λ (a : Given). a .number) e)
 
-  pub is-accepted : Sound h → g .number ≡ 0 → (o : Out Bool) → o ≡ textTruth (firsts (h .addresses) (g .finals)) (firsts (h .events) (h .kind)) (firsts (h .events) (h .value)) text → shownBy g o ≡ Wanted
+  pub is-accepted : Sound h → g .number ≡ 0 → (o : Out Bool) → o ≡ textTruth (firsts (h .addresses) (g .finals)) (firsts (h .events) (h .kind)) (firsts (h .events) (h .value)) text
+      → shownBy g o ≡ conditionShown (conditionOut w text (next (caseOf h) i))
   is-accepted S z o is =
-      ap (shownBy g) (is ∙ text-same h S (g .finals) (ap (λ (a : Given). a .finals) e ∙ finals-of (caseOf h) i v (same-number ∙ z)) text)
+      ap (shownBy g) (is ∙ text-same h S (g .finals) (ap (λ (a : Given). a .finals) e ∙ finals-of (caseOf h) i (verdict (caseOf h) w) (same-number ∙ z)) text)
       ∙ ap (λ (a : Given). shownBy a (mapOut (truth (caseOf h)) (readText (ranges (caseOf h)) text))) e
-      ∙ by-same (caseOf h) (judgement (caseOf h) i v) (readText (ranges (caseOf h)) text)
-      ∙ ap conditionShown (sym (told (caseOf h) i (readText (ranges (caseOf h)) text) v (same-number ∙ z)))
+      ∙ by-same (caseOf h) (judgeOut w (next (caseOf h) i)) (readText (ranges (caseOf h)) text)
+      ∙ ap conditionShown (sym (text-under w text (caseOf h) i (same-number ∙ z)))
 
-  pub is-broken : (g .number ≡ 0 → ⊥) → shownWith g false ≡ Wanted
-  is-broken n =
-      ap (λ (a : Given). shownWith a false) e ∙ ap conditionShown (sym (own (caseOf h) i (readText (ranges (caseOf h)) text) v (λ z. n (sym same-number ∙ z))))
+  pub is-broken : (g .number ≡ 0 → ⊥) → shownWith g false ≡ conditionShown (conditionOut w text (next (caseOf h) i))
+  is-broken n = ap (λ (a : Given). shownWith a false) e ∙ ap conditionShown (sym (own-under w text (next (caseOf h) i) (λ z. n (sym same-number ∙ z))))

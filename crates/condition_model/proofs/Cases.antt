@@ -43,7 +43,7 @@ some-load c (suc i) = go (isLoad c i) refl (some-load c i)
         ⊎-elim (λ (k : e < i). n e k) (λ (k : i ≤ e). let same : e ≡ i = omega arith in rw same h) (lt-or-ge e i))) s
 
 -- past the last event there is no load
-no-event : (c : Case) (e : ℕ) → length (c .events) ≤ e → isLoad c e ≡ false
+pub no-event : (c : Case) (e : ℕ) → length (c .events) ≤ e → isLoad c e ≡ false
 unfolding isLoad kind
 no-event c e l = ap (λ (x : Event). eqb (x .kind) load) (List·getD-eq-default (c .events) noEvent l)
 
@@ -86,7 +86,7 @@ text-leftmost c s t x p bytes l m h A = leftmost (ranges c) s t x p bytes l m h 
 -- ---- what the calls answer
 
 -- under a model, of what was read or handed
-own-under : (w : Model) (text : List ℕ) (o : Out Case) → (judgeOut w o .number ≡ 0 → ⊥) → conditionOut w text o ≡ without (judgeOut w o)
+pub own-under : (w : Model) (text : List ℕ) (o : Out Case) → (judgeOut w o .number ≡ 0 → ⊥) → conditionOut w text o ≡ without (judgeOut w o)
 own-under w text (stop x p) n = refl
 own-under w text (next c i) n = go (verdict c w) n
   where
@@ -94,7 +94,7 @@ own-under w text (next c i) n = go (verdict c w) n
     go zero n = absurd (n refl)
     go (suc v) n = refl
 
-text-under : (w : Model) (text : List ℕ) (c : Case) (i : ℕ) → judgeOut w (next c i) .number ≡ 0 → conditionOut w text (next c i) ≡ byText c (judgeOut w (next c i)) (readText (ranges c) text)
+pub text-under : (w : Model) (text : List ℕ) (c : Case) (i : ℕ) → judgeOut w (next c i) .number ≡ 0 → conditionOut w text (next c i) ≡ byText c (judgeOut w (next c i)) (readText (ranges c) text)
 text-under w text c i z = go (verdict c w) z
   where
     go : (v : ℕ) → judgement c i v .number ≡ 0 → byVerdict c (judgement c i v) v (readText (ranges c) text) ≡ byText c (judgement c i v) (readText (ranges c) text)

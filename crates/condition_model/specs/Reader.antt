@@ -6,7 +6,7 @@ use mathlib.Core.Bool.{Bool, true, false, _&&_, cond}
 use mathlib.Core.List.{List, [], _∷_}
 use lib.Dec.{ltb, leb, eqb}
 use lib.ListN.{length, getD, drop}
-use Rattle.number.specs.Reader.{Out, stop, next, Reader, give, _>>=_, onward, unless}
+use Rattle.number.specs.Reader.{Out, stop, next, Reader, give, _>>=_, unless}
 use Rattle.condition_model.specs.Grammar.{mostText, mostDepth, Condition, Condition.aTerm, Condition.orElse, Term, Term.aFactor, Term.andAlso, Factor, Factor.negation, Factor.bracketed, Factor.memoryIs, Factor.loadIs, space, opening, closing, slash, zeroDigit, equals, backslash, letterE, letterM, tilde, Ranges}
 
 infixr 10 _>>_

@@ -1,5 +1,4 @@
--- Worked texts, of a case with two addresses, whose finals are 1 and 2, and two loads, 2 of 0 and 10 of 4,294,967,295; and worked calls. Theorem
--- `worked-texts`.
+-- Worked texts, of a case with two addresses, whose finals are 1 and 2, and two loads, 2 of 0 and 10 of 4,294,967,295. Theorem `worked-texts`.
 -- Assumes nothing.
 use Prim.Native.Nat.{ℕ, zero, suc, _+_, _-_}
 use Prim.Native.Char.{code}
@@ -9,12 +8,9 @@ use mathlib.Core.List.{List, [], _∷_}
 use lib.Dec.{eqb, ltb, leb}
 use Rattle.number.specs.Reader.{Out, stop, next}
 use Rattle.model.specs.Limits.{mostValue}
-use Rattle.model.specs.Worked.{sameAnswer}
-use Rattle.model.specs.Answers.{Answer}
 use Rattle.condition_model.specs.Grammar.{Condition, Condition.aTerm, Condition.orElse, Term, Term.aFactor, Term.andAlso, Factor, Factor.negation, Factor.bracketed, Factor.memoryIs, Factor.loadIs, Ranges}
 use Rattle.condition_model.specs.Reader.{readText}
 use Rattle.condition_model.specs.Truth.{truthC}
-use Rattle.condition_model.specs.Answers.{ConditionAnswer, condition, conditionCase}
 
 pub data Row : Type 0 where
   -- the condition that is read

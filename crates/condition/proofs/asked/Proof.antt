@@ -1,8 +1,6 @@
 -- `condition::asked` meets its contract. Assumes nothing.
 use borrow.Author.Needs.{needs}
 use mathlib.Core.Path.{_∙_}
-use Rattle.model.specs.Rules.{verdict}
-use Rattle.case.specs.Held.{caseOf}
 use Rattle.rules.specs.Verdict.{modelOf}
 use Rattle.condition.proofs.Held.{is-accepted, is-broken}
 use Rattle.condition.proofs.asked.Statement.{statement}
@@ -12,13 +10,13 @@ returns : tie.Need-returns
 returns c =
     let start = c .before .before .before .before .before .before .before .before .before in
     c .by-reading .ensures
-    ∙ is-accepted (start .args .c) (start .args .length) (verdict (caseOf (start .args .c)) (modelOf (start .args .strong))) _ (c .before .before .before .before .before .before .before .judged .ensures) _ (start .pre)
+    ∙ is-accepted (start .args .c) (start .args .length) (modelOf (start .args .strong)) _ (c .before .before .before .before .before .before .before .judged .ensures) _ (start .pre)
     (c .before .before .before .before .before .if1 .taken) _ (c .before .truth-of .ensures)
 
 returns-2 : tie.Need-returns-2
 returns-2 c =
     let start = c .before .before .before .before .before in
-    c .answered .ensures ∙ is-broken (start .args .c) (start .args .length) (verdict (caseOf (start .args .c)) (modelOf (start .args .strong))) _ (c .before .before .before .judged .ensures) _ (c .before .if1 .left)
+    c .answered .ensures ∙ is-broken (start .args .c) (start .args .length) (modelOf (start .args .strong)) _ (c .before .before .before .judged .ensures) _ (c .before .if1 .left)
 
 pub asked-spec : {M : Type 1} → statement M
 asked-spec =
