@@ -1,34 +1,36 @@
 -- Labels don't matter to conditions: a renumbered case gives the condition with its addresses moved the answer that the case gives the condition.
 -- Assumes nothing.
-use Prim.Native.Nat.{ℕ, zero, suc, _≤_}
+use Prim.Native.Nat.{ℕ, zero, suc, _+_, _≤_}
 use native.Mathlib.Omega.{arith}
-use mathlib.Core.Path.{_≡_, refl, sym, ap, ap₂, _∙_}
-use mathlib.Core.Bool.{Bool, true, false, not, cond, _&&_, _||_}
+use mathlib.Core.Path.{_≡_, refl, sym, ap, ap₂, _∙_, subst}
+use mathlib.Core.Bool.{true, not, _&&_, _||_}
 use mathlib.Core.List.{List, [], _∷_, _++_}
 use lib.Dec.{T, eqb}
-use lib.ListN.{length, take, drop}
+use lib.ListN.{length, take, drop, length-append}
+use borrow.Author.Tests.{ltb-true}
 use Rattle.number.specs.Number.{Bytes}
 use Rattle.number.specs.Reader.{next}
 use Rattle.permutation.specs.Permutation.{image, fits}
-use Rattle.permutation.proofs.Laws.{image-identity, fits-ltb, fits-identity, fits-composite}
+use Rattle.permutation.proofs.Laws.{image-identity, fits-image, fits-ltb}
 use Rattle.model.specs.Case.{Case, Event, load}
 use Rattle.model.specs.Rules.{kind, value, isLoad, final}
 use Rattle.model.specs.Record.{read}
 use Rattle.model.specs.Written.{recordOf}
 use Rattle.model.specs.Renumber.{relabel, renumber}
-use Rattle.model.specs.Answers.{Answer, room, judge, judgeCase}
+use Rattle.model.specs.Answers.{Answer, judge, judgeCase}
 use Rattle.model.specs.Fits.{Fits}
-use Rattle.model.specs.Calls.{Call, judging, renumbering, judgingCase, renumberingCase, recordAfter, Composed, start, compose, entered, composedAfter, movedAnswer, ruled}
+use Rattle.model.specs.Calls.{Call, judging, renumbering, judgingCase, renumberingCase, recordAfter, Composed, start, composedAfter, movedAnswer, ruled}
 use Rattle.model.proofs.Faultless.{handed-on}
 use Rattle.laws.proofs.ReadBack.{read-back}
 use Rattle.laws.proofs.ExactCase.{Readable, readable}
 use Rattle.laws.proofs.Renumbered.{event-at, final-moves}
 use Rattle.laws.proofs.Refits.{refits}
-use Rattle.laws.proofs.Claim.{Fitting, judging-gives, judging-case, claim}
-use Rattle.condition_model.specs.Grammar.{mostText, mostDepth, Condition, Condition.aTerm, Condition.orElse, Term, Term.aFactor, Term.andAlso, Factor, Factor.negation, Factor.bracketed, Factor.memoryIs, Factor.loadIs, Spells, Ranges, FitsC, FitsT, FitsF, Accepted}
+use Rattle.laws.proofs.Claim.{Fitting, judging-gives, judging-case, entered-fits, start-fits, claim}
+use Rattle.condition_model.specs.Grammar.{mostText, mostDepth, Condition, Condition.aTerm, Condition.orElse, Term, Term.aFactor, Term.andAlso, Factor, Factor.negation, Factor.bracketed, Factor.memoryIs, Factor.loadIs, equals, letterE, decimal, equation, spaces, tokensC, tokensT, tokensF, Padded, Spells, Ranges, FitsC, FitsT, FitsF, Accepted}
 use Rattle.condition_model.specs.Reader.{readText}
 use Rattle.condition_model.specs.Truth.{truthC, truthT, truthF, truth, ranges, movedC, movedT, movedF}
 use Rattle.condition_model.specs.Answers.{ConditionAnswer, without, byText, condition, conditionCase, movedCondition}
+use Rattle.condition_model.proofs.Decimal.{decimal-low}
 use Rattle.condition_model.proofs.Text.{accepted}
 use Rattle.condition_model.proofs.Cases.{own-first, own-first-case, by-text, by-text-case}
 
@@ -116,6 +118,72 @@ module _ (q r : ℕ) (c : Case) (F : Fits c) (fq : T (fits q (c .n))) (fr : T (f
   pub accepted-moves : (s s′ : List ℕ) (t : Condition) → Accepted (ranges c) s t → length s′ ≤ mostText → Spells s′ (movedC r t) → Accepted (ranges (renumber q r c)) s′ (movedC r t)
   accepted-moves s s′ t A l S = record { short = l; spells = S; fits = fits-moves t (A .fits) }
 
+-- ---- the text of a moved condition
+
+-- as many tokens, each as long as the other
+abbrev AsLong : List (List ℕ) → List (List ℕ) → Type 0
+AsLong [] [] = Unit {0}
+AsLong [] (u ∷ us) = ⊥
+AsLong (t ∷ ts) [] = ⊥
+AsLong (t ∷ ts) (u ∷ us) = (length t ≡ length u) × AsLong ts us
+
+as-long-same : (ts : List (List ℕ)) → AsLong ts ts
+as-long-same [] = tt
+as-long-same (t ∷ ts) = (refl, as-long-same ts)
+
+as-long-then : (ts us ts′ us′ : List (List ℕ)) → AsLong ts us → AsLong ts′ us′ → AsLong (ts ++ ts′) (us ++ us′)
+as-long-then [] [] ts′ us′ P Q = Q
+as-long-then [] (u ∷ us) ts′ us′ P Q = absurd P
+as-long-then (t ∷ ts) [] ts′ us′ P Q = absurd P
+as-long-then (t ∷ ts) (u ∷ us) ts′ us′ P Q = (P .0, as-long-then ts us ts′ us′ (P .1) Q)
+
+-- the same spaces behind the other tokens
+padded-alike : (ts us : List (List ℕ)) (bs : List ℕ) → AsLong ts us → Padded ts bs → (cs : List ℕ) × (length cs ≡ length bs) × Padded us cs
+padded-alike [] [] bs A P = (bs, refl, P)
+padded-alike [] (u ∷ us) bs A P = absurd A
+padded-alike (t ∷ ts) [] bs A P = absurd A
+padded-alike (t ∷ ts) (u ∷ us) bs A (g, r, e, P) =
+    let (cs, l, Q) = padded-alike ts us r (A .1) P in
+    (u ++ (spaces g ++ cs), simp length-append (rw (e, length-append, length-append, A .0, l) refl), (g, cs, refl, Q))
+
+-- addresses of one digit move to such
+module _ (r : ℕ) (w : Ranges) (short : (a : ℕ) → w .address a ≡ true → length (decimal (image r a)) ≡ length (decimal a)) where
+  mutual
+    unfolding tokensC movedC FitsC
+
+    as-long-C : (n : ℕ) (c : Condition) → FitsC w n c → AsLong (tokensC c) (tokensC (movedC r c))
+    as-long-C n (aTerm t) F = as-long-T n t F
+    as-long-C n (orElse t c) F = as-long-then (tokensT t) (tokensT (movedT r t)) _ _ (as-long-T n t (F .0)) (refl, as-long-C n c (F .1))
+
+    as-long-T : (n : ℕ) (t : Term) → FitsT w n t → AsLong (tokensT t) (tokensT (movedT r t))
+    as-long-T n (aFactor f) F = as-long-F n f F
+    as-long-T n (andAlso f t) F = as-long-then (tokensF f) (tokensF (movedF r f)) _ _ (as-long-F n f (F .0)) (refl, as-long-T n t (F .1))
+
+    as-long-F : (n : ℕ) (f : Factor) → FitsF w n f → AsLong (tokensF f) (tokensF (movedF r f))
+    as-long-F zero (negation f) F = absurd F
+    as-long-F (suc n) (negation f) F = (refl, as-long-F n f F)
+    as-long-F zero (bracketed c) F = absurd F
+    as-long-F (suc n) (bracketed c) F = (refl, as-long-then (tokensC c) (tokensC (movedC r c)) _ _ (as-long-C n c F) (refl, tt))
+    as-long-F n (memoryIs a v) F = (ap suc (sym (short a (F .0))), as-long-same ((equals ∷ []) ∷ decimal v ∷ []))
+    as-long-F n (loadIs e v) F = as-long-same (equation letterE e v)
+
+-- addresses have one digit
+one-digit : (r : ℕ) (c : Case) → Fits c → T (fits r (c .m)) → (a : ℕ) → ranges c .address a ≡ true → length (decimal (image r a)) ≡ length (decimal a)
+unfolding ranges
+one-digit r c F fr a h =
+    let l = ltb-true a (c .m) h in
+    let m = F .m-most in
+    let i = fits-image r (c .m) fr a l in
+    rw (decimal-low a (omega arith), decimal-low (image r a) (omega arith))
+
+-- a text that the case allows has one of the same length for the renumbered case, with each address moved
+pub text-moved : (r : ℕ) (c : Case) → Fits c → T (fits r (c .m)) → (s : List ℕ) (t : Condition) → Accepted (ranges c) s t → (s′ : List ℕ) × (length s′ ≡ length s) × Spells s′ (movedC r t)
+text-moved r c F fr s t A =
+    let S = A .spells in
+    let (cs, l, P) = padded-alike (tokensC t) (tokensC (movedC r t)) (S .rest) (as-long-C r (ranges c) (one-digit r c F fr) mostDepth t (A .fits)) (S .tokens) in
+    let long : length s ≡ length (spaces (S .before)) + length (S .rest) = ap length (S .text) ∙ length-append (spaces (S .before)) (S .rest) in
+    (spaces (S .before) ++ cs, length-append (spaces (S .before)) cs ∙ omega (arith, l), record { before = S .before; rest = cs; text = refl; tokens = P })
+
 -- ---- the calls
 
 -- bytes behind a record have no say
@@ -166,32 +234,14 @@ module _ (c : Case) (F : Fits c) (b : Composed) (fit : Fitting c F b) where
     pub asked-moves-case : (model : ℕ) → conditionCase model (ruled c b) s′ ≡ movedCondition (b .A) (conditionCase model c s)
     asked-moves-case model = answer-moves _ _ _ _ (judging-case c F b fit model) (case-answered c F model s) (case-answered (ruled c b) ruled-fits model s′)
 
--- permutations that were composed fit the case
-module _ (c : Case) (F : Fits c) (size : ℕ) where
-  compose-fits : (b : Composed) (q r : ℕ) → Fitting c F b → T (fits q (c .n)) → T (fits r (c .m)) → Fitting c F (compose b q r)
-  unfolding Fitting
-  compose-fits b q r fit g h = (fits-composite (b .T) q (c .n) (fit .0) g, fits-composite (b .A) r (c .m) (fit .1) h)
-
-  entered-fits : (b : Composed) (x : Call) → Fitting c F b → Fitting c F (entered (c .n) (c .m) size b x)
-  entered-fits b (judging model behind) fit = fit
-  entered-fits b (judgingCase model) fit = fit
-  entered-fits b (renumberingCase q r) fit = fit
-  entered-fits b (renumbering q r behind buffer at) fit = go (fits q (c .n)) (fits r (c .m)) (room size buffer at) (compose-fits b q r fit)
-    where
-      go : (x y z : Bool) → (T x → T y → Fitting c F (compose b q r)) → Fitting c F (cond (x && y && z) (compose b q r) b)
-      go true true true h = h tt tt
-      go true true false h = fit
-      go true false z h = fit
-      go false y z h = fit
-
-  after-fits : (b : Composed) (xs : List Call) → Fitting c F b → Fitting c F (composedAfter (c .n) (c .m) size b xs)
-  unfolding composedAfter
-  after-fits b [] fit = fit
-  after-fits b (x ∷ xs) fit = after-fits (entered (c .n) (c .m) size b x) xs (entered-fits b x fit)
-
-  start-fits : Fitting c F start
-  unfolding Fitting
-  start-fits = (fits-identity (c .n), fits-identity (c .m))
+-- the permutations that a list of calls composes fit the case
+after-fits : (c : Case) (F : Fits c) (b : Composed) (xs : List Call) → Fitting c F b → Fitting c F (composedAfter (c .n) (c .m) (length (recordOf c)) b xs)
+unfolding composedAfter
+after-fits c F b [] fit = fit
+after-fits c F b (judging model behind ∷ xs) fit = after-fits c F b xs fit
+after-fits c F b (judgingCase model ∷ xs) fit = after-fits c F b xs fit
+after-fits c F b (renumberingCase q r ∷ xs) fit = after-fits c F b xs fit
+after-fits c F b (renumbering q r behind buffer at ∷ xs) fit = after-fits c F _ xs (entered-fits c F b fit q r behind buffer at)
 
 -- After every list of judging and renumbering calls, the condition with its addresses moved by A, as A is then, gets the answer that the starting record gets for
 -- the condition, with the finals moved
@@ -201,14 +251,16 @@ pub asked-after : (bytes : List ℕ) → Bytes bytes → (c : Case) (size : ℕ)
 asked-after bytes h c size e xs model behind s s′ t is short spells =
     let R : Readable bytes c size = readable bytes h c size e in
     let b = composedAfter (c .n) (c .m) size start xs in
-    let fit = after-fits c (R .fits) size start xs (start-fits c (R .fits) size) in
+    let fit : Fitting c (R .fits) b =
+    subst (λ (i : ℕ). Fitting c (R .fits) (composedAfter (c .n) (c .m) i start xs)) (sym (R .length)) (after-fits c (R .fits) start xs (start-fits c (R .fits))) in
     ap (λ (l : List ℕ). condition model (l ++ behind) s′) (claim bytes h c size e xs .lasts)
     ∙ asked-moves c (R .fits) b fit s s′ t is short spells model behind
     ∙ ap (movedCondition (b .A)) (behind-silent c (R .fits) model behind (drop size bytes) s ∙ ap (λ (l : List ℕ). condition model l s) (sym (R .whole)))
 
 -- and so for the case that the renumbering rule makes by then, handed without bytes
-pub asked-after-case : (c : Case) → Fits c → (size : ℕ) (xs : List Call) (model : ℕ) (s s′ : List ℕ) (t : Condition)
-    → Accepted (ranges c) s t → length s′ ≤ mostText → Spells s′ (movedC (composedAfter (c .n) (c .m) size start xs .A) t)
-    → conditionCase model (ruled c (composedAfter (c .n) (c .m) size start xs)) s′ ≡ movedCondition (composedAfter (c .n) (c .m) size start xs .A) (conditionCase model c s)
-asked-after-case c F size xs model s s′ t is short spells =
-    asked-moves-case c F (composedAfter (c .n) (c .m) size start xs) (after-fits c F size start xs (start-fits c F size)) s s′ t is short spells model
+pub asked-after-case : (c : Case) → Fits c → (xs : List Call) (model : ℕ) (s s′ : List ℕ) (t : Condition)
+    → Accepted (ranges c) s t → length s′ ≤ mostText → Spells s′ (movedC (composedAfter (c .n) (c .m) (length (recordOf c)) start xs .A) t)
+    → conditionCase model (ruled c (composedAfter (c .n) (c .m) (length (recordOf c)) start xs)) s′
+    ≡ movedCondition (composedAfter (c .n) (c .m) (length (recordOf c)) start xs .A) (conditionCase model c s)
+asked-after-case c F xs model s s′ t is short spells =
+    asked-moves-case c F (composedAfter (c .n) (c .m) (length (recordOf c)) start xs) (after-fits c F start xs (start-fits c F)) s s′ t is short spells model

@@ -254,7 +254,7 @@ module _ (c : Case) (F : Fits c) where
             (λ t u. written-there size buffer at (recordOf after) u (now-size (compose b q r) (composed-fits t)))
             ∙ sym (cond-under (λ (b : Composed). recordOf (ruled c b)) (yes && room size buffer at) (compose b q r) b)
 
-        entered-fits : Fitting (entered (c .n) (c .m) size b x)
+        pub entered-fits : Fitting (entered (c .n) (c .m) size b x)
         entered-fits = cond-either Fitting (yes && room size buffer at) (compose b q r) b (λ t. composed-fits (and-left yes _ t)) fit
 
       -- the calls that take a case
@@ -302,7 +302,7 @@ module _ (c : Case) (F : Fits c) where
       let rest = steps xs b fit in
       (rest .0, ap₂ _∷_ (renumbering-case-gives b fit q r) (rest .1))
 
-  start-fits : Fitting start
+  pub start-fits : Fitting start
   unfolding Fitting
   start-fits = (fits-identity (c .n), fits-identity (c .m))
 
