@@ -123,14 +123,21 @@ fn the_guide_says_the_same() {
     }
 }
 
+/// The lines under a heading, up to the next.
+fn section<'a>(guide: &'a str, heading: &'a str) -> impl Iterator<Item = &'a str> {
+    let lines = guide.lines().skip_while(move |line| *line != heading);
+    lines.skip(1).take_while(|line| !line.starts_with('#'))
+}
+
+/// The bytes that words state.
+fn bytes<'a>(lines: impl Iterator<Item = &'a str>) -> Vec<u8> {
+    let byte = |word| u8::from_str_radix(word, 16).expect("a byte");
+    lines.flat_map(str::split_whitespace).map(byte).collect()
+}
+
 /// The bytes in the first column of the table under a heading.
 fn annotated(guide: &str, heading: &str) -> Vec<u8> {
-    let lines = guide.lines().skip_while(|line| *line != heading).skip(1);
-    let section = lines.take_while(|line| !line.starts_with('#'));
-    let cells = section.filter_map(|line| line.strip_prefix("| `")?.split('`').next());
-    let words = cells.flat_map(str::split_whitespace);
-    let byte = |word| u8::from_str_radix(word, 16).expect("a byte");
-    words.map(byte).collect()
+    bytes(section(guide, heading).filter_map(|line| line.strip_prefix("| `")?.split('`').next()))
 }
 
 #[test]
@@ -155,10 +162,8 @@ fn the_annotated_text_is_the_example() {
 #[test]
 fn the_annotated_area() {
     let guide = text_file("../docs/FORMAT.md");
-    let (_, section) = guide.split_once("## An area").expect("a section");
-    let lines = section.lines().filter_map(|line| line.strip_prefix("    "));
-    let byte = |word| u8::from_str_radix(word, 16).expect("a byte");
-    let mut area: Vec<u8> = lines.flat_map(str::split_whitespace).map(byte).collect();
+    let lines = section(&guide, "## An area");
+    let mut area = bytes(lines.filter_map(|line| line.strip_prefix("    ")));
     let (small, seven) = (file("small.litmus"), [1, 1, 1, 0, 0, 0, 0]);
     assert_eq!((area.len(), &area[1..20]), (30, &small[..]));
     for (answer, expected) in [
