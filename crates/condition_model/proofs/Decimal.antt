@@ -22,7 +22,7 @@ Digits ds = All (λ b. isDigit b ≡ true) ds
 pub digit-low : (b : ℕ) → isDigit b ≡ true → zeroDigit ≤ b
 digit-low b h = leb-true zeroDigit b (and-l (leb zeroDigit b) (ltb b (zeroDigit + 10)) h)
 
-digit-high : (b : ℕ) → isDigit b ≡ true → b < zeroDigit + 10
+pub digit-high : (b : ℕ) → isDigit b ≡ true → b < zeroDigit + 10
 digit-high b h = ltb-true b (zeroDigit + 10) (and-r (leb zeroDigit b) (ltb b (zeroDigit + 10)) h)
 
 digit-is : (d : ℕ) → d < 10 → isDigit (zeroDigit + d) ≡ true

@@ -8,15 +8,15 @@ use mathlib.Core.Bool.{Bool, true, false}
 use native.Mathlib.Nat.{le-refl, not-suc-le-zero, le-of-suc-le-suc}
 use native.Mathlib.Numerals.{add-one}
 use native.Mathlib.Omega.{arith}
-use lib.Dec.{ltb, leb, eqb}
+use lib.Dec.{eqb}
 use lib.ListN.{length, getD, drop, drop-of-length-le}
 use lib.Seq.{drop-cons}
 use mir.Syntax.{w64}
 use mir.Val.{Fits}
-use borrow.Author.Tests.{le-leb, lt-leb, eq-eqb, ne-eqb, ltb-true, leb-true}
-use Rattle.finite.proofs.Tests.{and-l, and-r}
+use borrow.Author.Tests.{le-leb, lt-leb, eq-eqb, ne-eqb}
 use Rattle.number.specs.Reader.{Out, stop, next, unless}
 use Rattle.number.proofs.Encoding.{lt-or-ge}
+use Rattle.condition_model.proofs.Decimal.{digit-low, digit-high}
 use Rattle.condition_model.proofs.Parts.{inside}
 use Rattle.model.specs.Limits.{mostValue}
 use Rattle.condition_model.specs.Grammar.{space, zeroDigit}
@@ -76,18 +76,18 @@ module _ (s : List ℕ) (at i b : ℕ) (e : b ≡ byte s i) (h : skipped s i ≡
 -- ---- digits; t tells whether the byte b is one
 
 module _ (b : ℕ) (t : Bool) (k : t ≡ isDigit b) (h : t ≡ true) where
-  pub digit-low : zeroDigit ≤ b
-  digit-low = leb-true zeroDigit b (and-l (leb zeroDigit b) (ltb b (zeroDigit + 10)) (sym k ∙ h))
+  pub least : zeroDigit ≤ b
+  least = digit-low b (sym k ∙ h)
 
-  digit-high : b < zeroDigit + 10
-  digit-high = ltb-true b (zeroDigit + 10) (and-r (leb zeroDigit b) (ltb b (zeroDigit + 10)) (sym k ∙ h))
+  most : b < zeroDigit + 10
+  most = digit-high b (sym k ∙ h)
 
   pub sum-fits : (v : ℕ) → v ≤ mostValue → Fits w64 (v * 10 + (b - zeroDigit))
-  sum-fits v l = record { fits = omega (arith, digit-high) }
+  sum-fits v l = record { fits = omega (arith, most) }
 
   module _ (s : List ℕ) (i : ℕ) (e : b ≡ byte s i) where
     digit-inside : i < length s
-    digit-inside = byte-inside s i b b e refl (omega (arith, digit-high))
+    digit-inside = byte-inside s i b b e refl (omega (arith, most))
 
     pub digit-fits : length s * 1 < 2 ^ 63 → Fits w64 (i + 1)
     digit-fits f = record { fits = omega (arith, digit-inside) }

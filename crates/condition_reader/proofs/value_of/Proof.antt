@@ -3,7 +3,7 @@ use mathlib.Core.Path.{_≡_}
 use borrow.Author.Needs.{needs}
 use lib.ListN.{length}
 use Rattle.condition_model.specs.Reader.{byte}
-use Rattle.condition_reader.proofs.Places.{Passed, passed-none, passed-next, passed-big, passed-all, digit-low, digit-fits, digit-less, sum-fits}
+use Rattle.condition_reader.proofs.Places.{Passed, passed-none, passed-next, passed-big, passed-all, least, digit-fits, digit-less, sum-fits}
 use Rattle.condition_reader.proofs.value_of.Statement.{statement}
 use Rattle.condition_reader.proofs.value_of.Tie as tie
 
@@ -23,7 +23,7 @@ value-of-spec =
     (λ c. search (needs, passed-none))
     (λ c κs. search needs)
     (λ c. search needs)
-    (λ c. search digit-low)
+    (λ c. search least)
     (λ c. search (needs, sum-fits))
     (λ c. search needs)
     (λ c. search passed-big)
