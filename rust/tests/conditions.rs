@@ -99,7 +99,8 @@ fn one_byte_off() {
     times.assert_truths(10);
 }
 
-/// Every mixture of `~` and brackets, up to two more than may be nested.
+/// Every mixture of `~` and brackets, up to as many as may be nested, and a third of those of one and
+/// two more.
 #[test]
 fn every_nesting() {
     let mut times = Times::default();
