@@ -338,7 +338,7 @@ pub fn rule11(
     if too_many(threads, events) {
         return TOO_MANY;
     }
-    rule11_number(orders::rule11(rows, rows, threads, events))
+    rule11_number(one_order::rule11(rows, threads, events))
 }
 
 // The same by every three events.

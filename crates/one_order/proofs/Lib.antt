@@ -1,2 +1,4 @@
 pub mod Sizes
 pub mod Covers
+pub mod Joins
+pub mod AlikeOrders

@@ -1,14 +1,15 @@
-// A case's own orders: rule 11 of them.
+// A case's own orders: rule 11 of them, and what joins the orders of its threads.
 ghost use mathlib.Core.Path.{_≡_};
 ghost use mathlib.Core.Bool.{not};
 ghost use Prim.Native.Nat.{ℕ, _<_, _≤_};
 ghost use Rattle.finite.specs.Tests.{all, _⇒_};
 ghost use Rattle.bits.specs.Bit.{bit, width};
 ghost use Rattle.model.specs.Limits.{mostThreads, mostEvents};
-ghost use Rattle.rows.specs.Sets.{orderIn};
+ghost use Rattle.rows.specs.Sets.{Set, Sets, orderIn};
 ghost use Rattle.rows.specs.May.{may11};
 ghost use Rattle.orders.specs.Parts.{closed};
 ghost use Rattle.one_order.specs.Covers.{Tested};
+ghost use Rattle.one_order.specs.Alike.{asFirst, alikeIn};
 use case::Case;
 
 // Whether no event is in both sets.
@@ -62,16 +63,90 @@ fn covered_order(rows: &[u64; Case::MOST_THREADS * Case::MOST_EVENTS], k: usize,
     true
 }
 
+// Whether thread p's rows are the first thread's.
+fn as_first(rows: &[u64; Case::MOST_THREADS * Case::MOST_EVENTS], k: usize, p: usize) -> bool
+    requires { ⌜ k ≤ mostEvents ⌝ }
+    requires { ⌜ p < mostThreads ⌝ }
+    ensures { λ r. ⌜ r ≡ asFirst k (now (rows .entry)) p ⌝ }
+{
+    for a in 0..k {
+        if rows::row(rows, p, a) != rows::row(rows, 0, a) {
+            return false;
+        }
+    }
+    true
+}
+
+// Whether every thread's rows are the first thread's.
+pub fn alike(rows: &[u64; Case::MOST_THREADS * Case::MOST_EVENTS], n: usize, k: usize) -> bool
+    requires { ⌜ n ≤ mostThreads ⌝ }
+    requires { ⌜ k ≤ mostEvents ⌝ }
+    ensures { λ r. ⌜ r ≡ alikeIn n k (now (rows .entry)) ⌝ }
+{
+    for p in 1..n {
+        if !as_first(rows, k, p) {
+            return false;
+        }
+    }
+    true
+}
+
+// How many threads' orders decide rule 11: the first thread's where all are alike, else every thread's.
+fn deciding(rows: &[u64; Case::MOST_THREADS * Case::MOST_EVENTS], n: usize, k: usize) -> usize
+    requires { ⌜ n ≤ mostThreads ⌝ }
+    requires { ⌜ k ≤ mostEvents ⌝ }
+    ensures { λ r. ⌜ r ≤ n ⌝ }
+    ensures { λ r. ⌜ may11 r k (orderIn (now (rows .entry))) (orderIn (now (rows .entry))) ≡ may11 n k (orderIn (now (rows .entry))) (orderIn (now (rows .entry))) ⌝ }
+{
+    if n <= 1 {
+        return n;
+    }
+    if alike(rows, n, k) { 1 } else { n }
+}
+
 // Rule 11 of a case's own orders: the test that judging uses.
 pub fn rule11(rows: &[u64; Case::MOST_THREADS * Case::MOST_EVENTS], n: usize, k: usize) -> bool
     requires { ⌜ n ≤ mostThreads ⌝ }
     requires { ⌜ k ≤ mostEvents ⌝ }
     ensures { λ r. ⌜ r ≡ may11 n k (orderIn (now (rows .entry))) (orderIn (now (rows .entry))) ⌝ }
 {
-    for p in 0..n {
+    let few = deciding(rows, n, k);
+    for p in 0..few {
         if !covered_order(rows, k, p) {
             return false;
         }
     }
     true
+}
+
+// What comes after event e in every thread's order.
+fn joined_row(rows: &[u64; Case::MOST_THREADS * Case::MOST_EVENTS], n: usize, e: usize) -> u64
+    requires { ⌜ 1 ≤ n ⌝ }
+    requires { ⌜ n ≤ mostThreads ⌝ }
+    requires { ⌜ e < mostEvents ⌝ }
+    ensures { λ r. ⌜ Set r (λ g. all n (λ q. orderIn (now (rows .entry)) q e g)) ⌝ }
+{
+    let mut shared = rows::row(rows, 0, e);
+    for q in 1..n {
+        shared = bits::both(shared, rows::row(rows, q, e));
+    }
+    shared
+}
+
+// By event, what comes after it in every thread's order. The entries from k on are left open: there is no such event.
+pub fn joined(
+    rows: &[u64; Case::MOST_THREADS * Case::MOST_EVENTS],
+    n: usize,
+    k: usize,
+) -> [u64; Case::MOST_EVENTS]
+    requires { ⌜ 1 ≤ n ⌝ }
+    requires { ⌜ n ≤ mostThreads ⌝ }
+    requires { ⌜ k ≤ mostEvents ⌝ }
+    ensures { λ r. ⌜ Sets k r (λ e g. all n (λ q. orderIn (now (rows .entry)) q e g)) ⌝ }
+{
+    let mut out = [0u64; Case::MOST_EVENTS];
+    for e in 0..k {
+        out[e] = joined_row(rows, n, e);
+    }
+    out
 }

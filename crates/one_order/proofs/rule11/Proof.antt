@@ -2,6 +2,7 @@
 use Prim.Native.Nat.{_-_}
 use borrow.Author.Needs.{needs}
 use native.Mathlib.Omega.{arith}
+use mathlib.Core.Path.{_∙_}
 use Rattle.finite.specs.Tests.{all}
 use Rattle.finite.proofs.Loops.{Passed, begun, fails, passes, ends}
 use Rattle.rows.specs.Sets.{orderIn}
@@ -11,10 +12,10 @@ use Rattle.one_order.proofs.rule11.Statement.{statement}
 use Rattle.one_order.proofs.rule11.Tie as tie
 
 abbrev Inv-loop : tie.InvT-loop
-Inv-loop rows n k p₀ p = Passed n (λ p. all k (closed k (orderIn rows p) (orderIn rows p))) p
+Inv-loop rows n k few p₀ p = Passed few (λ p. all k (closed k (orderIn rows p) (orderIn rows p))) p
 
 abbrev μ-loop : tie.MeasureT-loop
-μ-loop rows n k p₀ p = n - p
+μ-loop rows n k few p₀ p = few - p
 
 pub rule11-spec : {M : Type 1} → statement M
 unfolding may11
@@ -23,10 +24,13 @@ rule11-spec =
     (tie.spec
     Inv-loop
     μ-loop
+    (λ c κs. search needs)
     (λ c. begun)
     (λ c κs. search needs)
-    (λ c. search fails)
+    (λ c.
+    let w = c .before .before .before in
+    fails (w .loop .inv) (c .before .before .loop-test .taken) (c .before .covered-order .ensures) (c .if1 .taken) ∙ w .before .deciding .ensures .1)
     (λ c. omega arith)
     (λ c. omega arith)
     (λ c. search passes)
-    (λ c. search ends))
+    (λ c. ends (c .before .loop .inv) (c .loop-test .left) ∙ c .before .before .deciding .ensures .1))
