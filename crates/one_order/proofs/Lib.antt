@@ -2,3 +2,4 @@ pub mod Sizes
 pub mod Covers
 pub mod Joins
 pub mod AlikeOrders
+pub mod FinalParts

@@ -1,6 +1,6 @@
 // A case's own orders: rule 11 of them, and what joins the orders of its threads.
 ghost use mathlib.Core.Path.{_≡_};
-ghost use mathlib.Core.Bool.{not};
+ghost use mathlib.Core.Bool.{true, not};
 ghost use Prim.Native.Nat.{ℕ, _<_, _≤_};
 ghost use Rattle.finite.specs.Tests.{all, _⇒_};
 ghost use Rattle.bits.specs.Bit.{bit, width};
@@ -9,6 +9,7 @@ ghost use Rattle.rows.specs.Sets.{Set, Sets, orderIn};
 ghost use Rattle.rows.specs.May.{may11};
 ghost use Rattle.orders.specs.Parts.{closed};
 ghost use Rattle.one_order.specs.Covers.{Tested};
+ghost use Rattle.one_order.specs.FinalParts.{Named, FinalPart};
 ghost use Rattle.one_order.specs.Alike.{asFirst, alikeIn};
 use case::Case;
 
@@ -49,7 +50,7 @@ fn covered_row(
     true
 }
 
-// Thread p's order is irreflexive and transitive.
+// Thread p's order is irreflexive and transitive, row by row.
 fn covered_order(rows: &[u64; Case::MOST_THREADS * Case::MOST_EVENTS], k: usize, p: usize) -> bool
     requires { ⌜ k ≤ mostEvents ⌝ }
     requires { ⌜ p < mostThreads ⌝ }
@@ -61,6 +62,90 @@ fn covered_order(rows: &[u64; Case::MOST_THREADS * Case::MOST_EVENTS], k: usize,
         }
     }
     true
+}
+
+// By size, an event whose row in thread p's order has so many events, if there is one. It is where to look first, and nothing rests on it.
+fn by_size(
+    rows: &[u64; Case::MOST_THREADS * Case::MOST_EVENTS],
+    k: usize,
+    p: usize,
+) -> [u8; Case::MOST_EVENTS + 1]
+    requires { ⌜ k ≤ mostEvents ⌝ }
+    requires { ⌜ p < mostThreads ⌝ }
+    ensures { λ r. ⌜ Named r ⌝ }
+{
+    let mut out = [0u8; Case::MOST_EVENTS + 1];
+    for a in 0..k {
+        let size = bits::size_below(rows::row(rows, p, a), k);
+        out[size] = a as u8;
+    }
+    out
+}
+
+// What follows event b in thread p's order, if nothing follows that; else none.
+fn last_after(
+    rows: &[u64; Case::MOST_THREADS * Case::MOST_EVENTS],
+    k: usize,
+    p: usize,
+    b: usize,
+) -> u64
+    requires { ⌜ k ≤ mostEvents ⌝ }
+    requires { ⌜ p < mostThreads ⌝ }
+    requires { ⌜ b < mostEvents ⌝ }
+    ensures { λ r. ⌜ FinalPart k (orderIn (now (rows .entry)) p) r ⌝ }
+{
+    let last = bits::both(rows::row(rows, p, b), bits::below(k));
+    rows::where_so(!rows::any(rows::after(rows, k, p, last), k), last)
+}
+
+// Events from the end of thread p's order on, as long as the event that is named next has exactly those after it that were taken.
+fn final_part(
+    rows: &[u64; Case::MOST_THREADS * Case::MOST_EVENTS],
+    sizes: &[u8; Case::MOST_EVENTS + 1],
+    k: usize,
+    p: usize,
+) -> u64
+    requires { ⌜ k ≤ mostEvents ⌝ }
+    requires { ⌜ p < mostThreads ⌝ }
+    requires { ⌜ Named (now sizes) ⌝ }
+    ensures { λ r. ⌜ FinalPart k (orderIn (now (rows .entry)) p) r ⌝ }
+{
+    let events = bits::below(k);
+    let mut part = last_after(rows, k, p, sizes[1] as usize);
+    for i in 1..k {
+        let a = sizes[i] as usize;
+        if bits::both(rows::row(rows, p, a), events) != part {
+            return part;
+        }
+        part = bits::with(part, a);
+    }
+    part
+}
+
+// Whether thread p's order is a line of events, from the first to the last, and the other events have none after them. Where it is
+// not, nothing is said of it.
+fn in_line(rows: &[u64; Case::MOST_THREADS * Case::MOST_EVENTS], k: usize, p: usize) -> bool
+    requires { ⌜ k ≤ mostEvents ⌝ }
+    requires { ⌜ p < mostThreads ⌝ }
+    ensures { λ r. ⌜ (r ≡ true → all k (closed k (orderIn (now (rows .entry)) p) (orderIn (now (rows .entry)) p)) ≡ true) ⌝ }
+{
+    let sizes = by_size(rows, k, p);
+    let part = final_part(rows, &sizes, k, p);
+    let others = rows::minus(bits::below(k), part);
+    !rows::any(rows::after(rows, k, p, others), k)
+}
+
+// Thread p's order is irreflexive and transitive.
+fn closed_order(rows: &[u64; Case::MOST_THREADS * Case::MOST_EVENTS], k: usize, p: usize) -> bool
+    requires { ⌜ k ≤ mostEvents ⌝ }
+    requires { ⌜ p < mostThreads ⌝ }
+    ensures { λ r. ⌜ r ≡ all k (closed k (orderIn (now (rows .entry)) p) (orderIn (now (rows .entry)) p)) ⌝ }
+{
+    if in_line(rows, k, p) {
+        true
+    } else {
+        covered_order(rows, k, p)
+    }
 }
 
 // Whether thread p's rows are the first thread's.
@@ -112,7 +197,7 @@ pub fn rule11(rows: &[u64; Case::MOST_THREADS * Case::MOST_EVENTS], n: usize, k:
 {
     let few = deciding(rows, n, k);
     for p in 0..few {
-        if !covered_order(rows, k, p) {
+        if !closed_order(rows, k, p) {
             return false;
         }
     }

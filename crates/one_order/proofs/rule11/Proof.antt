@@ -29,7 +29,7 @@ rule11-spec =
     (λ c κs. search needs)
     (λ c.
     let w = c .before .before .before in
-    fails (w .loop .inv) (c .before .before .loop-test .taken) (c .before .covered-order .ensures) (c .if1 .taken) ∙ w .before .deciding .ensures .1)
+    fails (w .loop .inv) (c .before .before .loop-test .taken) (c .before .closed-order .ensures) (c .if1 .taken) ∙ w .before .deciding .ensures .1)
     (λ c. omega arith)
     (λ c. omega arith)
     (λ c. search passes)
