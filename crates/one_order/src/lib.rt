@@ -1,7 +1,7 @@
 // A case's own orders: rule 11 of them, and what joins the orders of its threads.
 ghost use mathlib.Core.Path.{_≡_};
 ghost use mathlib.Core.Bool.{true, not};
-ghost use Prim.Native.Nat.{ℕ, _<_, _≤_};
+ghost use Prim.Native.Nat.{_-_, _<_, _≤_, min};
 ghost use Rattle.finite.specs.Tests.{all, _⇒_};
 ghost use Rattle.bits.specs.Bit.{bit, width};
 ghost use Rattle.model.specs.Limits.{mostThreads, mostEvents};
@@ -204,7 +204,16 @@ pub fn rule11(rows: &[u64; Case::MOST_THREADS * Case::MOST_EVENTS], n: usize, k:
     true
 }
 
-// What comes after event e in every thread's order.
+// Thread q, or the last of n threads if there is no thread q.
+fn or_last(q: usize, n: usize) -> usize
+    requires { ⌜ 1 ≤ n ⌝ }
+    ensures { λ r. ⌜ r ≡ min q (n - 1) ⌝ }
+{
+    if q < n { q } else { n - 1 }
+}
+
+// What comes after event e in every thread's order. The last thread stands for those that are missing, so that the loop has a fixed
+// number of turns and the compiler leaves none of it.
 fn joined_row(rows: &[u64; Case::MOST_THREADS * Case::MOST_EVENTS], n: usize, e: usize) -> u64
     requires { ⌜ 1 ≤ n ⌝ }
     requires { ⌜ n ≤ mostThreads ⌝ }
@@ -212,8 +221,8 @@ fn joined_row(rows: &[u64; Case::MOST_THREADS * Case::MOST_EVENTS], n: usize, e:
     ensures { λ r. ⌜ Set r (λ g. all n (λ q. orderIn (now (rows .entry)) q e g)) ⌝ }
 {
     let mut shared = rows::row(rows, 0, e);
-    for q in 1..n {
-        shared = bits::both(shared, rows::row(rows, q, e));
+    for q in 1..Case::MOST_THREADS {
+        shared = bits::both(shared, rows::row(rows, or_last(q, n), e));
     }
     shared
 }
