@@ -53,7 +53,7 @@ fn closed_order(
     true
 }
 
-// Rule 11, a whole row at once: the test that judging uses.
+// Rule 11, a whole row at once. Judging has a test of one order, `one_order::rule11`.
 pub fn rule11<'a>(
     known: &'a [u64; Case::MOST_THREADS * Case::MOST_EVENTS],
     asked: &'a [u64; Case::MOST_THREADS * Case::MOST_EVENTS],
@@ -160,7 +160,7 @@ fn closed_order_by_threes(
     true
 }
 
-// Rule 11 by every three events: the plain test beside the one that judging uses, with the same contract.
+// Rule 11 by every three events: the plain test beside the one that takes whole rows, with the same contract.
 pub fn rule11_by_threes<'a>(
     known: &'a [u64; Case::MOST_THREADS * Case::MOST_EVENTS],
     asked: &'a [u64; Case::MOST_THREADS * Case::MOST_EVENTS],
