@@ -1,28 +1,58 @@
 -- Where all threads have one order: rule 11 of the first decides, and rules 17 and 18 follow from it.
 -- Assumes nothing.
 use Prim.Native.Nat.{ℕ, _+_, _≤_, _<_}
+use native.Mathlib.Nat.{le-antisymm}
 use native.Mathlib.Omega.{arith}
 use mathlib.Core.Path.{_≡_, refl, sym, ap, ap₂, _∙_}
 use mathlib.Core.Bool.{Bool, true, false, not, _&&_}
 use mathlib.Core.List.{List}
+use lib.Bits.{bitOr, bitXor, and-le-l, and-le-r, or-add-and, xor-add-and, or-zero-l, xor-self}
 use lib.Dec.{eqb}
-use borrow.Author.Tests.{eqb-true, eq-eqb, ne-eqb, not-false}
+use borrow.Author.Tests.{eqb-true, eq-eqb, not-false}
 use Rattle.finite.specs.Tests.{all, _⇒_}
-use Rattle.finite.proofs.Tests.{iff, and-l, and-r, imp-e, imp-i, all-none, all-get, all-make, all-more, all-same, all-not}
+use Rattle.finite.proofs.Tests.{iff, and-i, and-l, and-r, imp-e, imp-i, all-none, all-get, all-make, all-more, all-same}
 use Rattle.bits.specs.Bit.{bit}
 use Rattle.rows.specs.Sets.{rowIn, orderIn}
 use Rattle.rows.specs.May.{may11, may17, may18}
 use Rattle.orders.specs.Parts.{closed}
 use Rattle.one_order.specs.Alike.{asFirst, alikeIn}
+use Rattle.one_order.proofs.Joins.{all-next}
 
--- ---- the loop over a thread's rows, and the loop over threads from the second on
+-- ---- the loop over a thread's rows: what was found is nothing where the first i are the first thread's
+pub differ-none : (found x y : ℕ) → eqb (bitOr found (bitXor x y)) 0 ≡ (eqb found 0 && eqb x y)
+differ-none found x y =
+    iff
+    (λ h.
+    let z : bitOr found (bitXor x y) ≡ 0 = eqb-true (bitOr found (bitXor x y)) 0 h in
+    let or = or-add-and found (bitXor x y) in
+    let few = and-le-r found (bitXor x y) in
+    let none : found ≡ 0 = omega (arith, z, or, few) in
+    let same : bitXor x y ≡ 0 = omega (arith, z, or, and-le-l found (bitXor x y)) in
+    and-i (eqb found 0) (eqb x y) (eq-eqb found 0 none)
+    (eq-eqb x y (omega (arith, same, xor-add-and x y, and-le-l x y, and-le-r x y))))
+    (λ h.
+    let none : found ≡ 0 = eqb-true found 0 (and-l (eqb found 0) (eqb x y) h) in
+    let same : x ≡ y = eqb-true x y (and-r (eqb found 0) (eqb x y) h) in
+    eq-eqb (bitOr found (bitXor x y)) 0 (ap₂ (λ (f z : ℕ). bitOr f (bitXor z y)) none same ∙ or-zero-l (bitXor y y) ∙ xor-self y))
 
-pub unlike : (k : ℕ) (rows : List ℕ) (p a : ℕ) {x y : ℕ} → a < k → x ≡ rowIn rows p a → y ≡ rowIn rows 0 a → (x ≡ y → ⊥) → false ≡ asFirst k rows p
-unlike k rows p a l ex ey d =
-    sym (all-not k (λ a. eqb (rowIn rows p a) (rowIn rows 0 a)) a l (ne-eqb (rowIn rows p a) (rowIn rows 0 a) (λ e. d (ex ∙ e ∙ sym ey))))
+pub record Compared (k : ℕ) (rows : List ℕ) (p i found : ℕ) : Type 0 where
+  pub within : i ≤ k
+  pub none : eqb found 0 ≡ asFirst i rows p
 
-pub like : (rows : List ℕ) (p a : ℕ) {x y : ℕ} → x ≡ rowIn rows p a → y ≡ rowIn rows 0 a → x ≡ y → eqb (rowIn rows p a) (rowIn rows 0 a) ≡ true
-like rows p a ex ey e = eq-eqb (rowIn rows p a) (rowIn rows 0 a) (sym ex ∙ e ∙ ey)
+pub compare-none : (k : ℕ) (rows : List ℕ) (p : ℕ) → Compared k rows p 0 0
+compare-none k rows p = record { within = omega arith; none = eq-eqb 0 0 refl ∙ sym (all-none (λ a. eqb (rowIn rows p a) (rowIn rows 0 a))) }
+
+pub compare-next : {k : ℕ} {rows : List ℕ} {p i found : ℕ} → Compared k rows p i found → i < k → {x y next : ℕ} → x ≡ rowIn rows p i → y ≡ rowIn rows 0 i
+    → eqb next 0 ≡ (eqb found 0 && eqb x y) → Compared k rows p (i + 1) next
+compare-next {rows = rows} {p} {i} h l ex ey e = record {
+  within = omega arith;
+  none = e ∙ ap₂ _&&_ (h .none) (ap₂ eqb ex ey) ∙ sym (all-next i (λ a. eqb (rowIn rows p a) (rowIn rows 0 a)));
+}
+
+pub compare-all : {k : ℕ} {rows : List ℕ} {p i found : ℕ} → Compared k rows p i found → k ≤ i → eqb found 0 ≡ asFirst k rows p
+compare-all {rows = rows} {p} h g = h .none ∙ ap (λ (m : ℕ). asFirst m rows p) (le-antisymm (h .within) g)
+
+-- ---- the loop over threads, from the second on
 
 pub first-alike : (k : ℕ) (rows : List ℕ) → all 1 (asFirst k rows) ≡ true
 first-alike k rows =
@@ -85,7 +115,8 @@ alike-17 n k rows of barrier applicable alike rule11 =
     all-make n _ (λ q lq. in-each n k rows alike p q e g lp lq le (transitive n k rows rule11 p e f g lp le lf lg ef fg)))))))))
 
 -- rule 18: so do e, the barrier f, the store s, the load l that must read from it and g
-pub alike-18 : (n k : ℕ) (rows : List ℕ) (of : ℕ → ℕ → Bool) (barrier : ℕ → Bool) (applicable : ℕ → ℕ → ℕ → Bool) (isStore : ℕ → Bool) (read : ℕ → ℕ → Bool) (thread : ℕ → ℕ)
+pub alike-18 : (n k : ℕ) (rows : List ℕ) (of : ℕ → ℕ → Bool) (barrier : ℕ → Bool) (applicable : ℕ → ℕ → ℕ → Bool)
+    (isStore : ℕ → Bool) (read : ℕ → ℕ → Bool) (thread : ℕ → ℕ)
     → alikeIn n k rows ≡ true → may11 n k (orderIn rows) (orderIn rows) ≡ true → ((l : ℕ) → l < k → thread l < n)
     → ((l s : ℕ) → l < k → s < k → read l s ≡ true → orderIn rows (thread l) s l ≡ true)
     → may18 n k of barrier applicable isStore read thread (orderIn rows) (orderIn rows) ≡ true

@@ -1,4 +1,4 @@
--- Orders that are a line of events: taken from the end on, each event has exactly those after it that were taken before.
+-- Linear orders: taken from the end on, each event has exactly those after it that were taken before.
 -- Assumes nothing.
 use Prim.Native.Nat.{ℕ, _+_, _-_, _^_, _≤_, _<_}
 use native.Mathlib.Omega.{arith}
@@ -7,12 +7,12 @@ use mathlib.Core.Path.{_≡_, refl, sym, ap, _∙_, subst}
 use mathlib.Core.Bool.{Bool, true, false, not, _&&_, _||_, true≢false}
 use mathlib.Core.List.{List}
 use lib.Bits.{bitAnd, bitOr}
-use lib.Dec.{eqb, ltb}
+use lib.Dec.{eqb}
 use lib.ListN.{length, getD, set, replicate, length-set, length-replicate, getD-replicate}
 use lib.Seq.{getD-set-same, getD-set-other}
 use borrow.Author.Tests.{eqb-true, lt-ltb, not-true}
-use Rattle.finite.specs.Tests.{all, some, count, _⇒_}
-use Rattle.finite.proofs.Tests.{and-l, and-r, and-i, and-true, or-l, or-e, imp-e, imp-i, imp-no, is-false, all-get, all-make, some-make, count-le}
+use Rattle.finite.specs.Tests.{all, some, count}
+use Rattle.finite.proofs.Tests.{and-l, and-r, and-i, and-true, or-l, or-e, imp-i, imp-no, is-false, all-make, some-make, count-le}
 use Rattle.bits.specs.Bit.{bit}
 use Rattle.model.specs.Limits.{mostEvents}
 use Rattle.rows.specs.Sets.{Set, rowIn, orderIn}

@@ -22,8 +22,8 @@ all-one : (p : ℕ → Bool) → all 1 p ≡ p 0
 unfolding all
 all-one p = refl
 
-all-more : (i : ℕ) (p : ℕ → Bool) → all (i + 1) p ≡ (all i p && p i)
-all-more i p = ap (λ (m : ℕ). all m p) (add-one i) ∙ all-suc i p
+pub all-next : (i : ℕ) (p : ℕ → Bool) → all (i + 1) p ≡ (all i p && p i)
+all-next i p = ap (λ (m : ℕ). all m p) (add-one i) ∙ all-suc i p
 
 -- the last of n numbers once more, for each that is missing up to m
 all-last : (n m : ℕ) (p : ℕ → Bool) → 1 ≤ n → n ≤ m → all m (λ i. p (min i (n - 1))) ≡ all n p
@@ -41,7 +41,7 @@ module _ {m : ℕ} {f : ℕ → ℕ → Bool} where
   pub join-next : {i acc part next : ℕ} → Joined m f i acc → i < m → Set part (f i) → next ≡ bitAnd acc part → Joined m f (i + 1) next
   join-next {i} {acc} {part} h l s e = record {
     within = omega arith;
-    common = λ g. ap (λ (x : ℕ). bit x g) e ∙ bit-and acc part g ∙ ap₂ _&&_ (h .common g) (s .has g) ∙ sym (all-more i (λ j. f j g));
+    common = λ g. ap (λ (x : ℕ). bit x g) e ∙ bit-and acc part g ∙ ap₂ _&&_ (h .common g) (s .has g) ∙ sym (all-next i (λ j. f j g));
   }
 
 -- the parts are those of n threads, with the last one's again for each thread that is missing

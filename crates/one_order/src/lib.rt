@@ -1,6 +1,7 @@
 // A case's own orders: rule 11 of them, and what joins the orders of its threads.
 ghost use mathlib.Core.Path.{_≡_};
-ghost use mathlib.Core.Bool.{true, not};
+ghost use mathlib.Core.Bool.{true, not, _&&_};
+ghost use lib.Dec.{eqb};
 ghost use Prim.Native.Nat.{_-_, _<_, _≤_, min};
 ghost use Rattle.finite.specs.Tests.{all, _⇒_};
 ghost use Rattle.bits.specs.Bit.{bit, width};
@@ -64,7 +65,8 @@ fn covered_order(rows: &[u64; Case::MOST_THREADS * Case::MOST_EVENTS], k: usize,
     true
 }
 
-// By size, an event whose row in thread p's order has so many events, if there is one. It is where to look first, and nothing rests on it.
+// By size, an event whose row in thread p's order has that many events, if there is one: where `final_part` looks for the next event.
+// No more is promised than that it is an event.
 fn by_size(
     rows: &[u64; Case::MOST_THREADS * Case::MOST_EVENTS],
     k: usize,
@@ -98,7 +100,8 @@ fn last_after(
     rows::where_so(!rows::any(rows::after(rows, k, p, last), k), last)
 }
 
-// Events from the end of thread p's order on, as long as the event that is named next has exactly those after it that were taken.
+// Events of thread p's order from its end on: each one that `sizes` names next, as long as those that come after it are the ones taken
+// before.
 fn final_part(
     rows: &[u64; Case::MOST_THREADS * Case::MOST_EVENTS],
     sizes: &[u8; Case::MOST_EVENTS + 1],
@@ -122,9 +125,9 @@ fn final_part(
     part
 }
 
-// Whether thread p's order is a line of events, from the first to the last, and the other events have none after them. Where it is
-// not, nothing is said of it.
-fn in_line(rows: &[u64; Case::MOST_THREADS * Case::MOST_EVENTS], k: usize, p: usize) -> bool
+// Whether thread p's order is seen to be linear: of the events that are not in its final part, none has an event after it. Where it
+// is not, it may be irreflexive and transitive all the same.
+fn linear_order(rows: &[u64; Case::MOST_THREADS * Case::MOST_EVENTS], k: usize, p: usize) -> bool
     requires { ⌜ k ≤ mostEvents ⌝ }
     requires { ⌜ p < mostThreads ⌝ }
     ensures { λ r. ⌜ (r ≡ true → all k (closed k (orderIn (now (rows .entry)) p) (orderIn (now (rows .entry)) p)) ≡ true) ⌝ }
@@ -141,25 +144,31 @@ fn closed_order(rows: &[u64; Case::MOST_THREADS * Case::MOST_EVENTS], k: usize, 
     requires { ⌜ p < mostThreads ⌝ }
     ensures { λ r. ⌜ r ≡ all k (closed k (orderIn (now (rows .entry)) p) (orderIn (now (rows .entry)) p)) ⌝ }
 {
-    if in_line(rows, k, p) {
+    if linear_order(rows, k, p) {
         true
     } else {
         covered_order(rows, k, p)
     }
 }
 
-// Whether thread p's rows are the first thread's.
+// What was found, and what two rows differ in: nothing, if nothing was found and the two are equal.
+fn differing(found: u64, mine: u64, other: u64) -> u64
+    ensures { λ r. ⌜ eqb r 0 ≡ (eqb found 0 && eqb mine other) ⌝ }
+{
+    found | (mine ^ other)
+}
+
+// Whether thread p's rows are the first thread's. All of them are looked at, so that the compiler takes several at once.
 fn as_first(rows: &[u64; Case::MOST_THREADS * Case::MOST_EVENTS], k: usize, p: usize) -> bool
     requires { ⌜ k ≤ mostEvents ⌝ }
     requires { ⌜ p < mostThreads ⌝ }
     ensures { λ r. ⌜ r ≡ asFirst k (now (rows .entry)) p ⌝ }
 {
+    let mut found: u64 = 0;
     for a in 0..k {
-        if rows::row(rows, p, a) != rows::row(rows, 0, a) {
-            return false;
-        }
+        found = differing(found, rows::row(rows, p, a), rows::row(rows, 0, a));
     }
-    true
+    found == 0
 }
 
 // Whether every thread's rows are the first thread's.
@@ -176,7 +185,7 @@ pub fn alike(rows: &[u64; Case::MOST_THREADS * Case::MOST_EVENTS], n: usize, k: 
     true
 }
 
-// How many threads' orders decide rule 11: the first thread's where all are alike, else every thread's.
+// How many threads' orders decide rule 11, from the first thread's on: one where all are alike, else each.
 fn deciding(rows: &[u64; Case::MOST_THREADS * Case::MOST_EVENTS], n: usize, k: usize) -> usize
     requires { ⌜ n ≤ mostThreads ⌝ }
     requires { ⌜ k ≤ mostEvents ⌝ }

@@ -10,5 +10,5 @@ closed-order-spec =
     (tie.spec
     (λ c κs. search needs)
     (λ c κs. search needs)
-    (λ c. sym (c .before .in-line .ensures (c .if1 .taken)))
+    (λ c. sym (c .before .linear-order .ensures (c .if1 .taken)))
     (λ c. search needs))

@@ -1,12 +1,12 @@
--- `one_order::in_line` meets its contract. Assumes nothing.
+-- `one_order::linear_order` meets its contract. Assumes nothing.
 use borrow.Author.Needs.{needs}
 use Rattle.rows.specs.Sets.{orderIn}
 use Rattle.one_order.proofs.FinalParts.{part-all}
-use Rattle.one_order.proofs.in_line.Statement.{statement}
-use Rattle.one_order.proofs.in_line.Tie as tie
+use Rattle.one_order.proofs.linear_order.Statement.{statement}
+use Rattle.one_order.proofs.linear_order.Tie as tie
 
-pub in-line-spec : {M : Type 1} → statement M
-in-line-spec =
+pub linear-order-spec : {M : Type 1} → statement M
+linear-order-spec =
     tie.close
     (tie.spec
     (λ c κs. search needs)
