@@ -1,0 +1,5 @@
+pub mod Digits
+pub mod Masks
+pub mod Shifts
+pub mod Exchange
+pub mod Turns
