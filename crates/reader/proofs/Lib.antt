@@ -1,6 +1,7 @@
 pub mod Forward
 pub mod Filling
 pub mod Events
+pub mod Runs
 pub mod Orders
 pub mod Initials
 pub mod Tables

@@ -19,12 +19,13 @@ use Rattle.number.specs.declared.NumberRead.the-variants.{Number, Refused}
 use Rattle.number.proofs.Laws.{read-within}
 use Rattle.number.proofs.Turns.{turns-none, turns-stop, turns-next}
 use Rattle.model.specs.Limits.{mostEvents}
-use Rattle.model.specs.Record.{Pair, Rows, pair, risingPair, withPair, nextPair, order}
+use Rattle.model.specs.Record.{Pair, Rows, pair, risingPair, nextPair, order}
 use Rattle.case.specs.Held.{pad}
 use Rattle.case.proofs.Pad.{pad-get}
-use Rattle.reader.specs.Answers.{Stores, Padded, pairOut}
+use Rattle.reader.specs.Answers.{Stores, Padded, pairs, Ran, inRow, pairOut}
 use Rattle.reader.specs.declared.PairRead.{PairRead}
 use Rattle.reader.specs.declared.PairRead.the-variants as the
+use Rattle.reader.specs.declared.PlaceRead.{PlaceRead}
 use Rattle.reader.specs.declared.PlaceRead.the-variants as place
 use Rattle.bits.specs.Bit.{width}
 use Rattle.reader.proofs.Forward.{gone, forward-rising-pair}
@@ -89,8 +90,19 @@ square-fits-64 k h = record { fits = omega (arith, square-small k h) }
 pub square-fits-32 : (k : ℕ) → k ≤ mostEvents → Fits w32 (k * k)
 square-fits-32 k h = record { fits = omega (arith, square-small k h) }
 
+-- behind a run
+module _ (s : List ℕ) (k a at low₀ row₀ left p low row left′ : ℕ) (t : Ran s k a at low₀ row₀ (left - 1) p low row left′) where
+  pub row-fits′ : Fits w64 (a * k)
+  row-fits′ = record { fits = omega (arith, rank-small k a 0 (t .within .1) (record { first = t .within .0; second = omega (arith, t .within .0) })) }
+
+  pub least-fits : Fits w64 (a * k + low)
+  least-fits = record { fits = omega (arith, t .within .1, t .inside, rank-small k a 0 (t .within .1) (record { first = t .within .0; second = omega (arith, t .within .0) })) }
+
+  pub run-less : 0 < left → left′ < left
+  run-less l = omega (arith, t .fewer)
+
 -- of an order, left pairs are left to read, of rank least or above
-pub record Pairing (s : List ℕ) (at k : ℕ) (array₀ array : List ℕ) (place least left : ℕ) : Type 0 where
+pub record Pairing (s : List ℕ) (at k count : ℕ) (array₀ array : List ℕ) (place least left : ℕ) : Type 0 where
   pub rows : List ℕ
   pub stored : array ≡ pad mostEvents rows
   pub size : length rows ≡ k
@@ -98,7 +110,7 @@ pub record Pairing (s : List ℕ) (at k : ℕ) (array₀ array : List ℕ) (plac
   pub room : length array ≡ mostEvents
   pub small : k ≤ mostEvents
   pub few : left ≤ k * k
-  pub same : onward (λ o p. next (o .rows) p) (turns left (nextPair k) (record { least = least; rows = rows }) s place) ≡ order k s at
+  pub same : onward (λ o p. next (o .rows) p) (turns left (nextPair k) (record { least = least; rows = rows }) s place) ≡ pairs k count s at
 
 zeros : (n k : ℕ) → k ≤ n → replicate n 0 ≡ pad n (replicate k 0)
 unfolding pad
@@ -110,29 +122,35 @@ pad-put : (n : ℕ) (xs : List ℕ) (a v : ℕ) → a < length xs → set (pad n
 unfolding pad
 pad-put n xs a v h = simp (set-append-left, length-set)
 
-module _ (s : List ℕ) (at k : ℕ) (array₀ : List ℕ) where
-  pub no-count : (r₁ : NumberRead) (f : Refusal) (x p : ℕ) (array : List ℕ)
-      → r₁ ≡ readNumber s at (k * k) → r₁ ≡ Refused x p → f ≡ refusalOf r₁ → Stores (Padded mostEvents array) (order k s at) (place.Refused f)
+module _ (s : List ℕ) (at k : ℕ) (r₁ : NumberRead) (e₁ : r₁ ≡ readNumber s at (k * k)) where
+  pub no-count : (f : Refusal) (x p : ℕ) (array : List ℕ) → r₁ ≡ Refused x p → f ≡ refusalOf r₁ → Stores (Padded mostEvents array) (order k s at) (place.Refused f)
   unfolding order upTo refusalOf
-  no-count r₁ f x p array e₁ u₁ g = rw (g, ← e₁, u₁) refl
+  no-count f x p array u₁ g = rw (g, ← e₁, u₁) refl
 
-  pub begun : (r₁ : NumberRead) (count p : ℕ)
-      → r₁ ≡ readNumber s at (k * k) → r₁ ≡ Number count p → k ≤ mostEvents → array₀ ≡ replicate mostEvents 0
-      → Pairing s at k array₀ array₀ p 0 count
-  unfolding order upTo
-  begun r₁ count p e₁ u₁ h z = record {
+  module _ (count p : ℕ) (u₁ : r₁ ≡ Number count p) where
+    pub count-in : count ≤ k * k
+    count-in = read-within s at (k * k) count p (sym e₁ ∙ u₁)
+
+    pub whole-order : (r : PlaceRead) (array : List ℕ) → Stores (Padded mostEvents array) (pairs k count s p) r → Stores (Padded mostEvents array) (order k s at) r
+    unfolding order upTo pairs
+    whole-order r array h = rw (← e₁, u₁) h
+
+module _ (s : List ℕ) (at k count : ℕ) (array₀ : List ℕ) where
+  pub begun : (k ≤ mostEvents) × (count ≤ k * k) → array₀ ≡ replicate mostEvents 0 → Pairing s at k count array₀ array₀ at 0 count
+  unfolding pairs
+  begun h z = record {
     rows = replicate k 0;
-    stored = z ∙ zeros mostEvents k h;
+    stored = z ∙ zeros mostEvents k (h .0);
     size = length-replicate k 0;
     kept = refl;
     room = ap length z ∙ length-replicate {A = ℕ} mostEvents 0;
-    small = h;
-    few = read-within s at (k * k) count p (sym e₁ ∙ u₁);
-    same = rw (← e₁, u₁);
+    small = h .0;
+    few = h .1;
+    same = refl;
   }
 
-  module _ (array : List ℕ) (p₀ least left : ℕ) (h : Pairing s at k array₀ array p₀ least left) where
-    pub all-read : left ≤ 0 → Stores (Padded mostEvents array) (order k s at) (place.Next p₀)
+  module _ (array : List ℕ) (p₀ least left : ℕ) (h : Pairing s at k count array₀ array p₀ least left) where
+    pub all-read : left ≤ 0 → Stores (Padded mostEvents array) (pairs k count s at) (place.Next p₀)
     all-read l = rw (← h .same, turns-none (nextPair k) s left (record { least = least; rows = h .rows }) p₀ l) (refl, record { stored = h .stored; long = omega (arith, h .size, h .small) })
 
     module _ (l : 0 < left) where
@@ -144,7 +162,7 @@ module _ (s : List ℕ) (at k : ℕ) (array₀ : List ℕ) where
           go (suc k) f = omega arith
 
       pub refusal : (r : PairRead) (f : Refusal) → pairOut r ≡ risingPair k least s p₀ → r ≡ the.Refused f
-          → Stores (Padded mostEvents array) (order k s at) (place.Refused f)
+          → Stores (Padded mostEvents array) (pairs k count s at) (place.Refused f)
       unfolding nextPair
       refusal r f g u =
           let w : risingPair k least s p₀ ≡ stop (f .number) (f .place) = sym g ∙ ap pairOut u in
@@ -163,28 +181,33 @@ module _ (s : List ℕ) (at k : ℕ) (array₀ : List ℕ) where
         pub bit-in : b < width
         bit-in = omega (arith, in-rows .second, h .small)
 
-        pub row-fits′ : Fits w64 (a * k)
-        row-fits′ = record { fits = omega (arith, rank-small k a b (h .small) in-rows) }
+        pub low-fits : Fits w64 (b + 1)
+        low-fits = record { fits = omega (arith, in-rows .second, h .small) }
 
-        pub rank-fits′ : Fits w64 (a * k + b)
-        rank-fits′ = record { fits = omega (arith, rank-small k a b (h .small) in-rows) }
+        pub low-in : b + 1 ≤ k
+        low-in = omega (arith, in-rows .second)
 
-        pub least-fits : Fits w64 (a * k + b + 1)
-        least-fits = record { fits = omega (arith, rank-small k a b (h .small) in-rows) }
+        pub row-in : a < k
+        row-in = in-rows .first
 
-        pub one-more : (v : ℕ) → v ≡ bitOr (getD array a 0) (2 ^ b) → Pairing s at k array₀ (set array a v) p (a * k + b + 1) (left - 1)
-        unfolding nextPair
-        one-more v ev =
-            let w : risingPair k least s p₀ ≡ next (record { a = a; b = b }) p = sym g ∙ ap pairOut u in
-            let i : a < length (h .rows) = omega (arith, in-rows .first, h .size) in
-            let old : getD array a 0 ≡ getD (h .rows) a 0 = rw (h .stored) (pad-get mostEvents (h .rows) a i) in
-            record {
-              rows = set (h .rows) a (bitOr (getD (h .rows) a 0) (2 ^ b));
-              stored = rw (ev, old, h .stored) (pad-put mostEvents (h .rows) a _ i);
-              size = length-set (h .rows) a _ ∙ h .size;
-              kept = length-set array a v ∙ h .kept;
-              room = length-set array a v ∙ h .room;
-              small = h .small;
-              few = omega (arith, h .few);
-              same = ap (onward (λ (o : Rows) (p : ℕ). next (o .rows) p)) (sym (turns-next (nextPair k) s left (left - 1) (record { least = least; rows = h .rows }) (withPair k (record { least = least; rows = h .rows }) (record { a = a; b = b })) p₀ p (omega arith) (rw w))) ∙ h .same;
-            }
+        module _ (v p′ low v′ left′ : ℕ) (t : Ran s k a p (b + 1) v (left - 1) p′ low v′ left′) where
+          pub one-run : v ≡ bitOr (getD array a 0) (2 ^ b) → Pairing s at k count array₀ (set array a v′) p′ (a * k + low) left′
+          unfolding nextPair
+          one-run ev =
+              let w : risingPair k least s p₀ ≡ next (record { a = a; b = b }) p = sym g ∙ ap pairOut u in
+              let i : a < length (h .rows) = omega (arith, in-rows .first, h .size) in
+              let old : v ≡ bitOr (getD (h .rows) a 0) (2 ^ b) = rw (ev, h .stored, pad-get mostEvents (h .rows) a i) in
+              let z : a * k + b + 1 ≡ a * k + (b + 1) = omega arith in
+              let one : nextPair k (record { least = least; rows = h .rows }) s p₀ ≡ next (inRow k a (b + 1) v (h .rows)) p = rw (w, old, z) in
+              let turn : turns left (nextPair k) (record { least = least; rows = h .rows }) s p₀ ≡ turns (left - 1) (nextPair k) (inRow k a (b + 1) v (h .rows)) s p =
+              turns-next (nextPair k) s left (left - 1) (record { least = least; rows = h .rows }) (inRow k a (b + 1) v (h .rows)) p₀ p (omega arith) one in
+              record {
+                rows = set (h .rows) a v′;
+                stored = rw (h .stored) (pad-put mostEvents (h .rows) a v′ i);
+                size = length-set (h .rows) a v′ ∙ h .size;
+                kept = length-set array a v′ ∙ h .kept;
+                room = length-set array a v′ ∙ h .room;
+                small = h .small;
+                few = omega (arith, h .few, t .fewer);
+                same = ap (onward (λ (o : Rows) (p : ℕ). next (o .rows) p)) (sym (turn ∙ t .same (h .rows) i)) ∙ h .same;
+              }

@@ -1,14 +1,14 @@
 -- What the code's answers say, in the model's terms.
 -- Assumes nothing.
-use Prim.Native.Nat.{ℕ, _-_, _*_, _≤_}
+use Prim.Native.Nat.{ℕ, _-_, _+_, _*_, _≤_, _<_}
 use mathlib.Core.Path.{_≡_}
 use mathlib.Core.List.{List, map}
-use lib.ListN.{length}
-use Rattle.number.specs.Reader.{Out, stop, next, Reader, give, _>>=_, upTo, below}
+use lib.ListN.{length, set}
+use Rattle.number.specs.Reader.{Out, stop, next, Reader, give, _>>=_, turns, upTo, below}
 use Rattle.number.specs.declared.Refusal.{Refusal}
 use Rattle.model.specs.Limits.{mostThreads, mostAddresses, mostEvents, mostDependencies, mostValue, mostName}
 use Rattle.model.specs.Case.{Case, Event, Dependency}
-use Rattle.model.specs.Record.{Pair, Head, Listing, Rest}
+use Rattle.model.specs.Record.{Pair, Rows, Head, Listing, Rest, noPairs, nextPair}
 use Rattle.model.specs.Answers.{Part}
 use Rattle.case.specs.Held.{held, emptyCase, pad, rowsOf}
 use Rattle.reader.specs.declared.Head as code
@@ -74,6 +74,23 @@ refusedAt (place.Refused f) = f
 unfoldable pub refusedCount : CountRead → Refusal
 refusedCount (count.Count i p) = record { number = 0; place = 0 }
 refusedCount (count.Refused f) = f
+
+-- the rows of an order, behind the count of its pairs
+unfoldable pub pairs : (k i : ℕ) → Reader (List ℕ)
+pairs k i = do
+  o ← turns i (nextPair k) (noPairs k)
+  give (o .rows)
+
+-- an order so far, where row a is the number row and its next pair may name low or above
+abbrev pub inRow : (k a low row : ℕ) → List ℕ → Rows
+inRow k a low row rows = record { least = a * k + low; rows = set rows a row }
+
+-- A run of pairs of row a: the pairs left from a place on, read behind low and row, are those left′ from at′ on, read behind low′ and row′
+pub record Ran (s : List ℕ) (k a at low row left at′ low′ row′ left′ : ℕ) : Type 0 where
+  pub within : (a < k) × (k ≤ mostEvents)
+  pub inside : low′ ≤ k
+  pub fewer : left′ ≤ left
+  pub same : (rows : List ℕ) → a < length rows → turns left (nextPair k) (inRow k a low row rows) s at ≡ turns left′ (nextPair k) (inRow k a low′ row′ rows) s at′
 
 -- A reader that stores what it reads: the place or the refusal is the model's, and what is stored is as Stored says
 abbrev pub Stores : {A : Type 0} → (A → Type 0) → Out A → PlaceRead → Type 0

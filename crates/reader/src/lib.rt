@@ -1,8 +1,8 @@
 // The reading of a record into a case. A record lies in a slice of bytes from a place on; what lies behind it is not read.
 ghost use mathlib.Core.Path.{_≡_};
 ghost use mathlib.Core.List.{[]};
-ghost use Prim.Native.Nat.{_*_, _≤_, _<_};
-ghost use lib.ListN.{length, replicate};
+ghost use Prim.Native.Nat.{_-_, _*_, _≤_, _<_};
+ghost use lib.ListN.{length, getD, replicate};
 ghost use Rattle.number.specs.Reader.{times, turns, upTo, numberOut, stop, next};
 ghost use Rattle.bits.specs.Bit.{bit};
 ghost use Rattle.model.specs.Limits.{mostThreads, mostAddresses, mostEvents, mostDependencies, mostValue, mostName};
@@ -10,7 +10,7 @@ ghost use Rattle.model.specs.Record.{event, risingDependency, risingDependencie
 ghost use Rattle.model.specs.Answers.{name as nameOf, namePart};
 ghost use Rattle.case.specs.Held.{goodAt};
 ghost use Rattle.case.specs.Stores.{storeAt};
-ghost use Rattle.reader.specs.Answers.{access, eventOut, linkOut, pairOut, headOut, modelHead, Stores, StoresCounted, Events, Links, Padded, Tabled, Counts, ListingStored, RestStored, refusedAt, refusedCount, readingOf, readingFrom, partOf};
+ghost use Rattle.reader.specs.Answers.{access, eventOut, linkOut, pairOut, headOut, modelHead, Stores, StoresCounted, Events, Links, pairs, Ran, Padded, Tabled, Counts, ListingStored, RestStored, refusedAt, refusedCount, readingOf, readingFrom, partOf};
 use case::Case;
 use number::NumberRead;
 use number::Refusal;
@@ -41,6 +41,14 @@ pub struct Link {
     pub class: usize,
     pub from: usize,
     pub to: usize,
+}
+
+// Where a run of a row's pairs ends: the next place, the least event that may follow in the row, the row, and how many pairs are left.
+pub struct Run {
+    pub place: usize,
+    pub low: usize,
+    pub row: u64,
+    pub left: usize,
 }
 
 // The edition, and how many threads and addresses.
@@ -321,6 +329,124 @@ fn read_pair(bytes: &[u8], at: usize, k: usize, least: usize) -> PairRead
     PairRead::Refused(out_of_turn(at))
 }
 
+// How many of so many pairs of two bytes have no room between a place and the end of size bytes.
+fn without_room(size: usize, at: usize, pairs: usize) -> usize
+    ensures { λ r. ⌜ (pairs - r) * 2 ≤ size - at ⌝ }
+{
+    if size <= at {
+        return pairs;
+    }
+    let room = (size - at) / 2;
+    if pairs <= room {
+        return 0;
+    }
+    pairs - room
+}
+
+fn byte(bytes: &[u8], i: usize) -> usize
+    requires { ⌜ i < length (now bytes) ⌝ }
+    ensures { λ r. ⌜ r ≡ getD (now (bytes .entry)) i 0 ⌝ }
+{
+    bytes[i] as usize
+}
+
+// Takes the pairs of row a that stand in two bytes each and rise, up to the first that does not: that one is read_pair's. Nothing is refused here.
+fn take_run(bytes: &[u8], at: usize, k: usize, a: usize, from: usize, old: u64, count: usize) -> Run
+    requires { ⌜ (a < k) × (k ≤ mostEvents) ⌝ }
+    requires { ⌜ from ≤ k ⌝ }
+    ensures { λ r. ⌜ Ran (now (bytes .entry)) k a at from old count (r .place) (r .low) (r .row) (r .left) ⌝ }
+{
+    let last = without_room(bytes.len(), at, count);
+    let mut place = at;
+    let mut low = from;
+    let mut row = old;
+    let mut left = count;
+    while last < left {
+        let first = byte(bytes, place);
+        if first != a {
+            return Run {
+                place,
+                low,
+                row,
+                left,
+            };
+        }
+        let b = byte(bytes, place + 1);
+        if b < low {
+            return Run {
+                place,
+                low,
+                row,
+                left,
+            };
+        }
+        if k <= b {
+            return Run {
+                place,
+                low,
+                row,
+                left,
+            };
+        }
+        row = bits::with(row, b);
+        low = b + 1;
+        place += 2;
+        left -= 1;
+    }
+    Run {
+        place,
+        low,
+        row,
+        left,
+    }
+}
+
+// Reads a pair as read_pair does; one that stands in two bytes, at once.
+fn read_next(bytes: &[u8], at: usize, k: usize, least: usize) -> PairRead
+    requires { ⌜ (0 < k) × (k ≤ mostEvents) ⌝ }
+    ensures { λ r. ⌜ pairOut r ≡ risingPair k least (now (bytes .entry)) at ⌝ }
+{
+    if without_room(bytes.len(), at, 1) == 0 {
+        let a = byte(bytes, at);
+        let b = byte(bytes, at + 1);
+        if a < k {
+            if b < k {
+                if least <= a * k + b {
+                    return PairRead::Pair(a, b, at + 2);
+                }
+            }
+        }
+    }
+    read_pair(bytes, at, k, least)
+}
+
+// Reads count pairs of an order of k events into rows that hold zeros: the first of each run by read_next, which refuses, then the rest of the run.
+fn read_pairs(bytes: &[u8], at: usize, k: usize, count: usize, rows: &mut [u64]) -> PlaceRead
+    requires { ⌜ (k ≤ mostEvents) × (count ≤ k * k) ⌝ }
+    requires { ⌜ now rows ≡ replicate mostEvents 0 ⌝ }
+    ensures { λ r. ⌜ Stores (Padded mostEvents (now (rows .exit))) (pairs k count (now (bytes .entry)) at) r ⌝ }
+{
+    let mut place = at;
+    let mut least: usize = 0;
+    let mut left = count;
+    while 0 < left {
+        let read = read_next(bytes, place, k, least);
+        match read {
+            PairRead::Refused(refusal) => {
+                return PlaceRead::Refused(refusal);
+            }
+            PairRead::Pair(a, b, next) => {
+                let run = take_run(bytes, next, k, a, b + 1, bits::with(rows[a], b), left - 1);
+                rows[a] = run.row;
+                least = a * k + run.low;
+                place = run.place;
+                left = run.left;
+            }
+        }
+    }
+    PlaceRead::Next(place)
+}
+
 // Reads an order of k events into rows that hold zeros.
 fn read_order(bytes: &[u8], at: usize, k: usize, rows: &mut [u64]) -> PlaceRead
     requires { ⌜ k ≤ mostEvents ⌝ }
@@ -331,24 +457,7 @@ fn read_order(bytes: &[u8], at: usize, k: usize, rows: &mut [u64]) -> PlaceRead
     let NumberRead::Number(count, after_count) = count_read else {
         return PlaceRead::Refused(number::refused(count_read));
     };
-    let mut place = after_count;
-    let mut least: usize = 0;
-    let mut left = count;
-    while 0 < left {
-        let read = read_pair(bytes, place, k, least);
-        match read {
-            PairRead::Refused(refusal) => {
-                return PlaceRead::Refused(refusal);
-            }
-            PairRead::Pair(a, b, next) => {
-                rows[a] = bits::with(rows[a], b);
-                least = a * k + b + 1;
-                place = next;
-            }
-        }
-        left -= 1;
-    }
-    PlaceRead::Next(place)
+    read_pairs(bytes, after_count, k, count as usize, rows)
 }
 
 // Reads the orders of so many threads into rows that hold zeros.
