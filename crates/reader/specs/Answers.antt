@@ -2,8 +2,10 @@
 -- Assumes nothing.
 use Prim.Native.Nat.{ℕ, _-_, _+_, _*_, _≤_, _<_}
 use mathlib.Core.Path.{_≡_}
+use mathlib.Core.Bool.{Bool, _&&_}
 use mathlib.Core.List.{List, map}
-use lib.ListN.{length, set}
+use lib.ListN.{length, getD, set}
+use lib.Dec.{eqb, ltb, leb}
 use Rattle.number.specs.Reader.{Out, stop, next, Reader, give, _>>=_, turns, upTo, below}
 use Rattle.number.specs.declared.Refusal.{Refusal}
 use Rattle.model.specs.Limits.{mostThreads, mostAddresses, mostEvents, mostDependencies, mostValue, mostName}
@@ -85,12 +87,28 @@ pairs k i = do
 abbrev pub inRow : (k a low row : ℕ) → List ℕ → Rows
 inRow k a low row rows = record { least = a * k + low; rows = set rows a row }
 
+-- how many pairs of two bytes are taken at a time
+abbrev pub atOnce : ℕ
+atOnce = 8
+
+-- whether a pair is left, and the two bytes at a place are one of row a whose second event is low or above
+unfoldable pub followsAt : (s : List ℕ) (at a low left : ℕ) → Bool
+followsAt s at a low left = ltb 0 left && (eqb (getD s at 0) a && leb low (getD s (at + 1) 0))
+
 -- A run of pairs of row a: the pairs left from a place on, read behind low and row, are those left′ from at′ on, read behind low′ and row′
 pub record Ran (s : List ℕ) (k a at low row left at′ low′ row′ left′ : ℕ) : Type 0 where
   pub within : (a < k) × (k ≤ mostEvents)
   pub inside : low′ ≤ k
   pub fewer : left′ ≤ left
-  pub same : (rows : List ℕ) → a < length rows → turns left (nextPair k) (inRow k a low row rows) s at ≡ turns left′ (nextPair k) (inRow k a low′ row′ rows) s at′
+  pub same : (rows : List ℕ) → a < length rows
+      → turns left (nextPair k) (inRow k a low row rows) s at ≡ turns left′ (nextPair k) (inRow k a low′ row′ rows) s at′
+
+-- of most pairs that rise left′ are not taken: the others are a run for every k that is above them, whatever pairs come behind the most
+pub record Rose (s : List ℕ) (a at low row most at′ low′ row′ left′ : ℕ) : Type 0 where
+  pub fewer : left′ ≤ most
+  pub up : low ≤ low′
+  pub place : at′ ≡ at + (most - left′) * 2
+  pub ran : (k more : ℕ) → (a < k) × (k ≤ mostEvents) → low′ ≤ k → Ran s k a at low row (most + more) at′ low′ row′ (left′ + more)
 
 -- A reader that stores what it reads: the place or the refusal is the model's, and what is stored is as Stored says
 abbrev pub Stores : {A : Type 0} → (A → Type 0) → Out A → PlaceRead → Type 0

@@ -2,6 +2,8 @@
 ghost use mathlib.Core.Path.{_≡_};
 ghost use mathlib.Core.List.{[]};
 ghost use Prim.Native.Nat.{_-_, _*_, _≤_, _<_};
+ghost use mathlib.Core.Bool.{_&&_};
+ghost use lib.Dec.{eqb, leb};
 ghost use lib.ListN.{length, getD, replicate};
 ghost use Rattle.number.specs.Reader.{times, turns, upTo, numberOut, stop, next};
 ghost use Rattle.bits.specs.Bit.{bit};
@@ -10,7 +12,7 @@ ghost use Rattle.model.specs.Record.{event, risingDependency, risingDependencie
 ghost use Rattle.model.specs.Answers.{name as nameOf, namePart};
 ghost use Rattle.case.specs.Held.{goodAt};
 ghost use Rattle.case.specs.Stores.{storeAt};
-ghost use Rattle.reader.specs.Answers.{access, eventOut, linkOut, pairOut, headOut, modelHead, Stores, StoresCounted, Events, Links, pairs, Ran, Padded, Tabled, Counts, ListingStored, RestStored, refusedAt, refusedCount, readingOf, readingFrom, partOf};
+ghost use Rattle.reader.specs.Answers.{access, eventOut, linkOut, pairOut, headOut, modelHead, Stores, StoresCounted, Events, Links, pairs, Ran, atOnce, followsAt, Rose, Padded, Tabled, Counts, ListingStored, RestStored, refusedAt, refusedCount, readingOf, readingFrom, partOf};
 use case::Case;
 use number::NumberRead;
 use number::Refusal;
@@ -310,6 +312,9 @@ fn read_dependencies(
     CountRead::Count(i as usize, after_links)
 }
 
+// How many pairs of two bytes are taken at a time.
+const AT_ONCE: usize = 8;
+
 // Reads a pair of event numbers below k, of rank least or above.
 fn read_pair(bytes: &[u8], at: usize, k: usize, least: usize) -> PairRead
     requires { ⌜ (0 < k) × (k ≤ mostEvents) ⌝ }
@@ -331,7 +336,7 @@ fn read_pair(bytes: &[u8], at: usize, k: usize, least: usize) -> PairRead
 
 // How many of so many pairs of two bytes have no room between a place and the end of size bytes.
 fn without_room(size: usize, at: usize, pairs: usize) -> usize
-    ensures { λ r. ⌜ (pairs - r) * 2 ≤ size - at ⌝ }
+    ensures { λ r. ⌜ ((pairs - r) * 2 ≤ size - at) × (r ≤ pairs) ⌝ }
 {
     if size <= at {
         return pairs;
@@ -343,11 +348,60 @@ fn without_room(size: usize, at: usize, pairs: usize) -> usize
     pairs - room
 }
 
+// The byte at i.
 fn byte(bytes: &[u8], i: usize) -> usize
     requires { ⌜ i < length (now bytes) ⌝ }
-    ensures { λ r. ⌜ r ≡ getD (now (bytes .entry)) i 0 ⌝ }
+    ensures { λ r. ⌜ (r ≡ getD (now (bytes .entry)) i 0) × (r < 256) ⌝ }
 {
     bytes[i] as usize
+}
+
+// Whether a pair is left, and the two bytes at a place are one of row a whose second event is low or above.
+fn follows(bytes: &[u8], at: usize, a: usize, low: usize, left: usize) -> bool
+    requires { ⌜ left * 2 ≤ length (now bytes) - at ⌝ }
+    ensures { λ r. ⌜ r ≡ followsAt (now (bytes .entry)) at a low left ⌝ }
+{
+    if 0 < left {
+        if byte(bytes, at) == a {
+            return low <= byte(bytes, at + 1);
+        }
+    }
+    false
+}
+
+// Takes at most so many pairs of row a, of two bytes each, as long as they rise. Whether they are below k is asked behind them, once: they rise.
+fn take_pairs(bytes: &[u8], at: usize, a: usize, from: usize, old: u64, most: usize) -> Run
+    requires { ⌜ most * 2 ≤ length (now bytes) - at ⌝ }
+    ensures { λ r. ⌜ Rose (now (bytes .entry)) a at from old most (r .place) (r .low) (r .row) (r .left) ⌝ }
+{
+    let mut place = at;
+    let mut low = from;
+    let mut row = old;
+    let mut left = most;
+    while follows(bytes, place, a, low, left) {
+        let b = byte(bytes, place + 1);
+        row = bits::with(row, b % Case::MOST_EVENTS);
+        low = b + 1;
+        place += 2;
+        left -= 1;
+    }
+    Run {
+        place,
+        low,
+        row,
+        left,
+    }
+}
+
+// Whether none of the last pairs was missed, and there is room for as many again.
+fn goes_on(missed: usize, last: usize, left: usize) -> bool
+    requires { ⌜ last ≤ left ⌝ }
+    ensures { λ r. ⌜ r ≡ (eqb missed 0 && leb atOnce (left - last)) ⌝ }
+{
+    if missed == 0 {
+        return AT_ONCE <= left - last;
+    }
+    false
 }
 
 // Takes the pairs of row a that stand in two bytes each and rise, up to the first that does not: that one is read_pair's. Nothing is refused here.
@@ -361,37 +415,22 @@ fn take_run(bytes: &[u8], at: usize, k: usize, a: usize, from: usize, old: u64, 
     let mut low = from;
     let mut row = old;
     let mut left = count;
-    while last < left {
-        let first = byte(bytes, place);
-        if first != a {
-            return Run {
-                place,
-                low,
-                row,
-                left,
-            };
-        }
-        let b = byte(bytes, place + 1);
-        if b < low {
-            return Run {
-                place,
-                low,
-                row,
-                left,
-            };
-        }
-        if k <= b {
-            return Run {
-                place,
-                low,
-                row,
-                left,
-            };
-        }
-        row = bits::with(row, b);
-        low = b + 1;
-        place += 2;
-        left -= 1;
+    let mut missed: usize = 0;
+    while goes_on(missed, last, left) {
+        let run = take_pairs(bytes, place, a, low, row, AT_ONCE);
+        place = run.place;
+        low = run.low;
+        row = run.row;
+        missed = run.left;
+        left = left - AT_ONCE + missed;
+    }
+    if k < low {
+        return Run {
+            place: at,
+            low: from,
+            row: old,
+            left: count,
+        };
     }
     Run {
         place,

@@ -1,13 +1,14 @@
+use Prim.Native.Nat.{_+_, _-_}
 use borrow.Author.Needs.{needs}
-use Rattle.reader.proofs.Runs.{Running, run-begun, run-ends, first-there, second-there, run-next, second-fits, next-fits, bit-there, low-fits}
+use Rattle.reader.proofs.Runs.{Running, ran-none, run-begun, run-back, turn-room, turn-there, left-fits, turn-less, run-turn, run-ends}
 use Rattle.reader.proofs.take_run.Statement.{statement}
 use Rattle.reader.proofs.take_run.Tie as tie
 
 abbrev Inv-loop : tie.InvT-loop
-Inv-loop bytes at k a from old count last place₀ low₀ row₀ left₀ place low row left = Running bytes k a at from old count last place low row left
+Inv-loop bytes at k a from old count last place₀ low₀ row₀ left₀ missed₀ place low row left missed = Running bytes k a at from old count last place low row left missed
 
 abbrev μ-loop : tie.MeasureT-loop
-μ-loop bytes at k a from old count last place₀ low₀ row₀ left₀ place low row left = left
+μ-loop bytes at k a from old count last place₀ low₀ row₀ left₀ missed₀ place low row left missed = left + left - missed
 
 pub take-run-spec : {M : Type 1} → statement M
 take-run-spec =
@@ -17,16 +18,11 @@ take-run-spec =
     μ-loop
     (λ c κs. search needs)
     (λ c. search run-begun)
-    (λ c κs. search first-there)
-    (λ c. search run-ends)
-    (λ c. search second-fits)
-    (λ c κs. search second-there)
-    (λ c. search run-ends)
-    (λ c. search run-ends)
-    (λ c κs. search bit-there)
-    (λ c. search low-fits)
-    (λ c. search next-fits)
-    (λ c. search needs)
-    (λ c. search needs)
-    (λ c. search run-next)
+    (λ c κs. search run-back)
+    (λ c κs. search turn-room)
+    (λ c. turn-there _ _ _ _ _ _ _ _ _ _ _ _ _ (c .before .before .before .loop .inv) _ (c .before .before .goes-on .ensures) (c .before .if1 .taken))
+    (λ c. left-fits _ _ _ _ _ _ _ _ _ _ _ _ _ (c .before .before .before .loop .inv) _ (c .before .before .goes-on .ensures) (c .before .if1 .taken) _ _ _ _ (c .take-pairs .ensures))
+    (λ c. turn-less _ _ _ _ _ _ _ _ _ _ _ _ _ (c .before .before .before .loop .inv) _ (c .before .before .goes-on .ensures) (c .before .if1 .taken) _ _ _ _ (c .take-pairs .ensures))
+    (λ c. run-turn _ _ _ _ _ _ _ _ _ _ _ _ _ (c .before .before .before .loop .inv) _ (c .before .before .goes-on .ensures) (c .before .if1 .taken) _ _ _ _ (c .take-pairs .ensures))
+    (λ c. search ran-none)
     (λ c. search run-ends))
