@@ -17,9 +17,10 @@ judge:
 judge_log:
 	rt check judge_log
 
-# times beside an ordinary Rust implementation
+# times beside an ordinary Rust implementation; with BEFORE=ARCHIVE judging also beside another version's liblitmus.a,
+# and with PART=judging nothing else
 bench: archive judge_log
-	cd rust && cargo run --release --offline --bin bench
+	cd rust && BEFORE=$(abspath $(BEFORE)) cargo run --release --offline --bin bench $(PART)
 
 # the static library that C and Rust link
 archive:

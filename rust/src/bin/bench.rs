@@ -5,6 +5,9 @@
 
 #[path = "bench/areas.rs"]
 mod areas;
+#[cfg(before)]
+#[path = "bench/before.rs"]
+mod before;
 #[path = "record/built.rs"]
 mod built;
 #[path = "bench/conditions.rs"]

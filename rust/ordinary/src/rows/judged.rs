@@ -101,20 +101,19 @@ impl<'a> Judged<'a> {
 
     /// The lowest broken rule of 12 to 16, or 0.
     fn lowest_broken(&self) -> u32 {
-        let rules: [(u32, fn(&Self, usize) -> bool); 5] = [
-            (12, Self::total_on_own),
-            (13, Self::program_order),
-            (14, Self::coherence),
-            (15, Self::values_are_known),
-            (16, Self::values_are_latest),
-        ];
-        let broken = |&(_, holds): &(u32, fn(&Self, usize) -> bool)| {
-            !(0..self.case.threads).all(|p| holds(self, p))
-        };
-        rules
-            .into_iter()
-            .find(broken)
-            .map_or(0, |(number, _)| number)
+        let mut rules = 12..=16;
+        rules.find(|&rule| !self.holds(rule)).unwrap_or(0)
+    }
+
+    fn holds(&self, rule: u32) -> bool {
+        (0..self.case.threads).all(|p| match rule {
+            12 => self.total_on_own(p),
+            13 => self.program_order(p),
+            14 => self.coherence(p),
+            15 => self.values_are_known(p),
+            16 => self.values_are_latest(p),
+            _ => unreachable!("no rule {rule}"),
+        })
     }
 
     fn total_on_own(&self, p: usize) -> bool {

@@ -3,18 +3,19 @@
 //!
 //! The implementations take turns on batches of records, and of each the best round of each batch
 //! counts. In a batch of some hundred KB a processor learns the branches of all its records within
-//! a few rounds, and then takes a third less time than for records that it has not seen before. A
-//! batch of some MB is more than it learns. It is also more than a core's own caches hold, but the
-//! bytes are taken one after the other and so are fetched in time: ten times as many in a batch cost
-//! no more.
+//! some rounds: the ordinary implementation then takes 7 microseconds for 64 events, and 12 for
+//! records that were not seen before. A batch of 4 MB is more than that. It is also more than a
+//! core's own caches hold, but the bytes are taken one after the other and so are fetched in time:
+//! with 64 MB in a batch it takes 12.5.
 
+#[cfg(before)]
+use super::before;
 use super::inputs::{Inputs, Kind};
 use litmus::{judge_raw, read_raw};
 use ordinary::judge::PPCS;
 use ordinary::limits::EVENTS;
 use ordinary::{rows, Answer};
 use std::hint::black_box;
-use std::iter::Sum;
 use std::time::{Duration, Instant};
 
 /// How many events the records of each half have.
@@ -22,69 +23,39 @@ const HALVES: [usize; 2] = [24, EVENTS];
 /// How many records, accepted ones and refused ones, are in a quarter: a half has one with all threads
 /// in one order, and one with each in its own.
 const QUARTER: usize = 2_500;
-const ROUNDS: usize = 15;
+/// How many events the records have that show how the cost grows. Each size has one batch.
+const GROWING: [usize; 6] = [8, 16, 24, 32, 48, EVENTS];
 /// How many bytes of records a batch may have.
 const BATCH: usize = 1 << 22;
-/// How many events the records have that show how the cost grows, and how many records.
-const GROWING: [usize; 6] = [8, 16, 24, 32, 48, EVENTS];
-const EACH: usize = 500;
+const ROUNDS: usize = 15;
 
-/// An implementation: what it answers for a record, and the number that reading it gives.
+/// From bytes to the verdict under PPCs, and reading alone. Reading moves the case out, of which
+/// judging has no need, so that what is left for the verdict is a little too small.
 struct Implementation {
+    name: &'static str,
     judge: fn(&[u8]) -> Answer,
     read: fn(&[u8]) -> u32,
 }
 
-/// Ours, the ordinary one, and ours of before if it is linked.
-const IMPLEMENTATIONS: [Implementation; 2] = [
+/// The first is compared with each of the others.
+const IMPLEMENTATIONS: &[Implementation] = &[
     Implementation {
+        name: "ours",
         judge: |record| plain(judge_raw(record, PPCS)),
         read: |record| read_raw(record).number,
     },
     Implementation {
+        name: "ordinary",
         judge: |record| rows::judge(record, PPCS),
         read: |record| black_box(rows::read(record)).map_or_else(|refusal| refusal.number, |_| 0),
     },
+    #[cfg(before)]
+    Implementation {
+        name: "before",
+        judge: |record| plain(before::judge_raw(record, PPCS)),
+        read: |record| before::read_raw(record).number,
+    },
 ];
-
-/// The time from bytes to the verdict, and of reading alone.
-#[derive(Clone, Copy, Default)]
-struct Cost {
-    whole: Duration,
-    reading: Duration,
-}
-
-impl Cost {
-    fn verdict(&self) -> Duration {
-        self.whole.saturating_sub(self.reading)
-    }
-}
-
-impl Sum for Cost {
-    fn sum<I: Iterator<Item = Cost>>(costs: I) -> Cost {
-        costs.fold(Cost::default(), |sum, cost| Cost {
-            whole: sum.whole + cost.whole,
-            reading: sum.reading + cost.reading,
-        })
-    }
-}
-
-/// What so many records cost each implementation.
-#[derive(Clone, Copy)]
-struct Costs {
-    records: usize,
-    each: [Cost; IMPLEMENTATIONS.len()],
-}
-
-impl Costs {
-    fn sum(parts: &[Costs]) -> Costs {
-        let of = |i: usize| parts.iter().map(|part| part.each[i]).sum();
-        Costs {
-            records: parts.iter().map(|part| part.records).sum(),
-            each: std::array::from_fn(of),
-        }
-    }
-}
 
 fn plain(answer: litmus::Answer) -> Answer {
     Answer {
@@ -95,85 +66,116 @@ fn plain(answer: litmus::Answer) -> Answer {
     }
 }
 
+/// What so many records cost each implementation.
+struct Costs {
+    which: String,
+    records: usize,
+    each: Vec<Cost>,
+}
+
+#[derive(Clone, Copy)]
+struct Cost {
+    whole: Duration,
+    reading: Duration,
+}
+
+impl Cost {
+    /// The time from bytes to the verdict, of this reading, and the rest.
+    fn parts(&self) -> [Duration; 3] {
+        let verdict = self.whole.saturating_sub(self.reading);
+        [self.whole, self.reading, verdict]
+    }
+
+    fn add(&mut self, more: Cost) {
+        self.whole += more.whole;
+        self.reading += more.reading;
+    }
+}
+
+impl Costs {
+    fn all_at(which: impl ToString, time: Duration) -> Costs {
+        let (whole, reading) = (time, time);
+        Costs {
+            which: which.to_string(),
+            records: 0,
+            each: vec![Cost { whole, reading }; IMPLEMENTATIONS.len()],
+        }
+    }
+
+    fn sum<'a>(which: impl ToString, parts: impl IntoIterator<Item = &'a Costs>) -> Costs {
+        let mut sum = Costs::all_at(which, Duration::ZERO);
+        for part in parts {
+            sum.records += part.records;
+            for (cost, &more) in sum.each.iter_mut().zip(&part.each) {
+                cost.add(more);
+            }
+        }
+        sum
+    }
+}
+
 pub fn judging() {
     println!("microseconds a record; each batch's best of {ROUNDS} rounds, which take turns\n");
     for kind in [Kind::Accepted, Kind::Refused] {
         let records = 2 * QUARTER * HALVES.len();
         println!("{records} records of edition 1 that PPCs {kind}\n");
-        heads(["ours", "ordinary"]);
         let halves = HALVES.map(|events| half(kind, events));
-        line(
-            "all",
-            &Costs::sum(&halves.each_ref().map(|(costs, _)| *costs)),
-        );
-        halves.iter().for_each(|(_, contents)| print!("{contents}"));
+        let all = Costs::sum("all", halves.iter().map(|[.., both]| both));
+        let costs: Vec<Costs> = halves.into_iter().flatten().chain([all]).collect();
         println!();
+        tables(&costs);
     }
-    growing();
+    println!("accepted records of more and more events\n");
+    tables(&GROWING.map(growing));
 }
 
-/// Both quarters, and what their records hold.
-fn half(kind: Kind, events: usize) -> (Costs, String) {
-    let mut contents = String::new();
-    let quarters = [false, true].map(|own| {
+/// The quarters of one size, and both together.
+fn half(kind: Kind, events: usize) -> [Costs; 3] {
+    let [one_order, own_orders] = [false, true].map(|own| {
         let mut inputs = Inputs::new(kind, events, own);
-        let costs = timed(&mut inputs, QUARTER);
-        line(&inputs.to_string(), &costs);
-        contents += &inputs.contents();
+        let costs = timed(&mut inputs);
+        print!("{}", inputs.contents());
         costs
     });
-    let both = Costs::sum(&quarters);
-    line(&format!("{events} events"), &both);
-    (both, contents)
+    let both = Costs::sum(format!("{events} events"), [&one_order, &own_orders]);
+    [one_order, own_orders, both]
 }
 
-/// How the cost grows with the events, each thread with its own order.
-fn growing() {
-    println!("{EACH} accepted records of each size\n");
-    heads(["ours", "ordinary"]);
-    for events in GROWING {
-        let mut inputs = Inputs::new(Kind::Accepted, events, true);
-        line(&inputs.to_string(), &timed(&mut inputs, EACH));
-    }
-    println!();
-}
-
-/// Times so many records, a batch at a time.
-fn timed(inputs: &mut Inputs, records: usize) -> Costs {
+/// A quarter, a batch at a time.
+fn timed(inputs: &mut Inputs) -> Costs {
     let mut batches = Vec::new();
-    let mut left = records;
+    let mut left = QUARTER;
     while left > 0 {
         let batch = inputs.batch(left, BATCH);
-        for record in &batch {
-            assert_same_answers(record);
-        }
         left -= batch.len();
-        batches.push(best(&batch));
+        batches.push(best(inputs, &batch));
     }
-    Costs::sum(&batches)
+    Costs::sum(inputs, &batches)
 }
 
-fn assert_same_answers(record: &[u8]) {
-    let [first, others @ ..] = &IMPLEMENTATIONS.map(|each| (each.judge)(record));
-    assert!(others.iter().all(|other| other == first), "{record:?}");
+fn growing(events: usize) -> Costs {
+    let mut inputs = Inputs::new(Kind::Accepted, events, true);
+    let batch = inputs.batch(usize::MAX, BATCH);
+    best(&inputs, &batch)
 }
 
-/// The best time of each for a batch.
-fn best(batch: &[Vec<u8>]) -> Costs {
-    let worst = Cost {
-        whole: Duration::MAX,
-        reading: Duration::MAX,
-    };
-    let mut each = [worst; IMPLEMENTATIONS.len()];
+/// The best time of each for a batch, on which they have to agree.
+fn best(inputs: &Inputs, batch: &[Vec<u8>]) -> Costs {
+    for record in batch {
+        let mut answers = IMPLEMENTATIONS.iter().map(|each| (each.judge)(record));
+        let first = answers.next();
+        assert!(answers.all(|other| Some(other) == first), "{record:?}");
+    }
+    let mut best = Costs::all_at(inputs, Duration::MAX);
+    best.records = batch.len();
     for _ in 0..ROUNDS {
-        for (best, with) in each.iter_mut().zip(&IMPLEMENTATIONS) {
-            let judge = |record: &[u8]| (with.judge)(record).number;
-            best.whole = best.whole.min(time(batch, judge));
+        for (best, with) in best.each.iter_mut().zip(IMPLEMENTATIONS) {
+            let whole = time(batch, |record| (with.judge)(record).number);
+            best.whole = best.whole.min(whole);
             best.reading = best.reading.min(time(batch, with.read));
         }
     }
-    let records = batch.len();
-    Costs { records, each }
+    best
 }
 
 fn time(batch: &[Vec<u8>], call: impl Fn(&[u8]) -> u32) -> Duration {
@@ -184,30 +186,31 @@ fn time(batch: &[Vec<u8>], call: impl Fn(&[u8]) -> u32) -> Duration {
     start.elapsed()
 }
 
-fn heads(names: [&str; 2]) {
-    let [first, second] = names;
-    let columns = format!("{first:>8} {second:>8}  ratio   ");
-    let parts = ["bytes to verdict", "of this reading", "and the verdict"];
-    println!(
-        "{:23}{}",
-        "",
-        parts.map(|part| format!("{part:>24}   ")).concat()
-    );
-    println!("{:23}{}", "", columns.repeat(parts.len()));
+/// The first implementation beside each of the others.
+fn tables(costs: &[Costs]) {
+    for other in 1..IMPLEMENTATIONS.len() {
+        let [first, second] = [0, other].map(|i| IMPLEMENTATIONS[i].name);
+        let heads = format!("{first:>10} {second:>8}  ratio");
+        let parts = ["bytes to verdict", "of this reading", "and the verdict"];
+        println!(
+            "{:21}{}",
+            "",
+            parts.map(|part| format!("{part:>26}")).concat()
+        );
+        println!("{:21}{}", "", heads.repeat(parts.len()));
+        costs.iter().for_each(|costs| line(costs, other));
+        println!();
+    }
 }
 
-fn line(name: &str, costs: &Costs) {
-    let parts = [
-        |cost: &Cost| cost.whole,
-        |cost: &Cost| cost.reading,
-        |cost: &Cost| cost.verdict(),
-    ];
-    let columns = parts.map(|part| {
-        let [first, second] = [0, 1].map(|i| {
-            let seconds = part(&costs.each[i]).as_secs_f64();
-            seconds * 1e6 / costs.records as f64
-        });
-        format!("{first:8.3} {second:8.3} {:6.2}   ", first / second)
+fn line(costs: &Costs, other: usize) {
+    let [first, second] = [0, other].map(|i| {
+        let micros = |time: Duration| time.as_secs_f64() * 1e6 / costs.records as f64;
+        costs.each[i].parts().map(micros)
     });
-    println!("{name:23}{}", columns.concat());
+    print!("{:21}", costs.which);
+    for (first, second) in first.iter().zip(second) {
+        print!("{first:10.3} {second:8.3} {:6.2}", first / second);
+    }
+    println!();
 }
