@@ -1,6 +1,10 @@
 //! Reading: number, place, length and name agree on good, damaged and random bytes.
 
+#[path = "../src/bin/record/built.rs"]
+mod built;
 mod common;
+#[path = "reading/odd.rs"]
+mod odd;
 
 use common::plain;
 use litmus::Part;

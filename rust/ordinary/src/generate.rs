@@ -5,6 +5,7 @@ mod conditions;
 mod damage;
 mod logs;
 mod names;
+pub mod odd;
 mod own_orders;
 mod program;
 mod sparse;

@@ -2,11 +2,11 @@
 
 use ordinary::answer::{Refusal, MISPLACED, OF_READING, ROOM, UNPRINTABLE};
 use ordinary::generate::{self, Duty};
-use ordinary::judge::{judge, judge_case, verdict, PPCS, PPCW};
+use ordinary::judge::{judge, judge_case, verdict, PPCS, PPCW, RULES};
 use ordinary::judge::{verdict_with_syncs, verdict_without_dependencies};
 use ordinary::limits::{most_bytes, EDITIONS, EVENTS, FIRST, GROUPS, SECOND};
 use ordinary::random::Random;
-use ordinary::tally::{edition_name, model_name, Tally};
+use ordinary::tally::{edition_name, heading, model_name, Tally};
 use ordinary::{permutation, read, renumber, representative, rows, write, Case};
 
 const MODELS: [u64; 2] = [PPCW, PPCS];
@@ -26,6 +26,43 @@ fn rows_agree_with_pairs() {
     }
     println!("{tally}");
     tally.assert_judged(100);
+}
+
+/// Cases in which each thread has its own order are accepted, and such as break a rule come up for
+/// every rule.
+#[test]
+fn own_orders_and_broken_rules() {
+    let mut random = Random::new(11);
+    let mut tally = Tally::default();
+    let mut apart = 0;
+    for i in 0..320 {
+        let (count, edition) = (2 + i % (EVENTS - 1), EDITIONS[i % EDITIONS.len()]);
+        let case = generate::own_orders(&mut random, edition, count);
+        apart += usize::from(case.orders[0] != case.orders[1]);
+        tally_both(&mut tally, &case);
+        assert_eq!(verdict(&case, PPCS), 0, "{case:?}");
+        for rule in RULES {
+            let broken = generate::breaking(&mut random, &case, rule);
+            tally_both(&mut tally, &broken);
+        }
+    }
+    println!("{tally}");
+    assert!(apart >= 280, "orders differ in {apart} cases");
+    for edition in EDITIONS {
+        for model in MODELS {
+            tally.assert_each(heading(edition, model), [0].into_iter().chain(RULES), 10);
+        }
+    }
+}
+
+/// Counts the case's verdicts, on which both implementations have to agree.
+fn tally_both(tally: &mut Tally, case: &Case) {
+    let record = write::record(case);
+    for model in MODELS {
+        let answer = judge(&record, model);
+        assert_eq!(rows::judge(&record, model), answer, "{case:?}");
+        tally.add(heading(case.edition, model), answer.number);
+    }
 }
 
 /// Names of generated cases have every printable byte and no other. Those of damaged records have

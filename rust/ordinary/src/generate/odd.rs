@@ -1,0 +1,208 @@
+//! Records on which a quick reader may go wrong, with a word on where: every number written otherwise,
+//! every end of the bytes, and every count of pairs.
+
+use super::program::{interleaving, program, write_in};
+use crate::case::{Case, Event, Order};
+use crate::limits::{EDITIONS, EVENTS, FIRST, GROUPS, SECOND, THREADS, VALUE};
+use crate::random::Random;
+use crate::write::{number, numbers, record};
+
+/// The places of a pair in an order.
+pub const PAIRS: [&str; 4] = ["row's front", "inside a row", "row's end", "last row"];
+/// The fields of an event.
+pub const FIELDS: [&str; 4] = ["kind", "thread", "address", "value"];
+/// What else a record has of numbers.
+pub const OTHERS: [&str; 4] = ["head", "dependencies", "write orders", "counts"];
+
+/// Every number of some records exchanged for others, and for itself and others in odd forms; as a
+/// whole and cut behind it.
+pub fn every_number(visit: &mut impl FnMut(&'static str, &[u8])) {
+    for case in cases() {
+        let record = record(&case);
+        let mut start = 0;
+        let all = numbers(&case);
+        for (i, place) in places(&case).into_iter().enumerate() {
+            let end = start + number(all[i].into()).len();
+            let before = all[i.saturating_sub(2)];
+            for form in forms(all[i], before, case.events.len()) {
+                let mut changed = [&record[..start], &form].concat();
+                visit(place, &changed);
+                changed.extend(&record[end..]);
+                visit(place, &changed);
+            }
+            start = end;
+        }
+    }
+}
+
+/// Some records cut at every byte.
+pub fn every_end(visit: &mut impl FnMut(&[u8])) {
+    for case in cases() {
+        let record = record(&case);
+        (0..=record.len()).for_each(|size| visit(&record[..size]));
+    }
+}
+
+/// For some counts of events, the front of all pairs in every length, and of those that rise; the
+/// count right, one too small, and one too great with no pair behind the others and with one.
+pub fn every_count(visit: &mut impl FnMut(&[u8])) {
+    for (i, events) in [0, 1, 2, 3, 24, EVENTS - 1, EVENTS].into_iter().enumerate() {
+        let front = syncs(EDITIONS[i % EDITIONS.len()], events);
+        let all = (0..events).flat_map(|a| (0..events).map(move |b| (a, b)));
+        let rising = all.clone().filter(|(a, b)| a < b);
+        for pairs in [all.collect::<Vec<_>>(), rising.collect()] {
+            let bytes: Vec<u8> = pairs
+                .iter()
+                .flat_map(|&(a, b)| [a as u8, b as u8])
+                .collect();
+            for size in 0..=pairs.len() {
+                for (count, behind) in [
+                    (size.saturating_sub(1), &[0][..]),
+                    (size, &[0]),
+                    (size + 1, &[0]),
+                    (size + 1, &[0, 0, 0]),
+                ] {
+                    let count = number(count as u64);
+                    visit(&[&front, &count, &bytes[..2 * size], behind].concat());
+                }
+            }
+        }
+    }
+}
+
+/// Two events, every count, and behind it all bytes up to a length out of a few.
+pub fn every_small_order(visit: &mut impl FnMut(&[u8])) {
+    const BYTES: [u8; 5] = [0, 1, 2, 128, 129];
+    const LENGTH: u32 = 6;
+    let front = syncs(FIRST, 2);
+    for count in 0..=5 {
+        for length in 0..=LENGTH {
+            for which in 0..BYTES.len().pow(length) {
+                let byte = |i| BYTES[which / BYTES.len().pow(i) % BYTES.len()];
+                let behind: Vec<u8> = (0..length).map(byte).collect();
+                visit(&[&front[..], &[count], &behind].concat());
+            }
+        }
+    }
+}
+
+/// A record of one thread's syncs up to the count of its pairs.
+fn syncs(edition: u32, events: usize) -> Vec<u8> {
+    let mut case = Case::empty(1, 1);
+    case.edition = edition;
+    case.events = vec![Event::sync(0); events];
+    let mut front = record(&case);
+    // Behind it are the count of pairs and the length of the name.
+    front.truncate(front.len() - 2);
+    front
+}
+
+/// Of both editions, with the fewest and the most events, with full orders or rows and with sparse ones.
+fn cases() -> Vec<Case> {
+    let mut random = Random::new(50);
+    let mut all = Vec::new();
+    for edition in EDITIONS {
+        for (threads, events) in [(1, 0), (1, 1), (2, 2), (THREADS, 12)] {
+            all.push(total(&mut random, edition, threads, events));
+            all.push(sparse(&mut random, edition, threads, events));
+        }
+    }
+    for (edition, events) in [(FIRST, EVENTS), (SECOND, EVENTS - 1)] {
+        let mut case = total(&mut random, edition, 1, events);
+        keep_pairs(&mut case, |(a, _)| a % 4 == 0);
+        all.push(case);
+    }
+    all.push(sparse(&mut random, FIRST, THREADS, EVENTS - 1));
+    all.push(sparse(&mut random, SECOND, THREADS, EVENTS));
+    all
+}
+
+fn total(random: &mut Random, edition: u32, threads: usize, events: usize) -> Case {
+    let mut case = program(random, edition, threads, threads, events, 6);
+    for p in 0..threads {
+        let sequence = interleaving(random, &case);
+        write_in(&mut case, &sequence);
+        case.orders[p] = Order::total(&sequence);
+    }
+    case.name = b"odd".to_vec();
+    case
+}
+
+/// With few pairs in a row, and rows without any.
+fn sparse(random: &mut Random, edition: u32, threads: usize, events: usize) -> Case {
+    let mut case = total(random, edition, threads, events);
+    keep_pairs(&mut case, |_| random.once_in(12));
+    case
+}
+
+fn keep_pairs(case: &mut Case, mut kept: impl FnMut((usize, usize)) -> bool) {
+    for order in &mut case.orders {
+        for (a, b) in order.pairs(case.events.len()) {
+            if !kept((a, b)) {
+                order.remove(a, b);
+            }
+        }
+    }
+}
+
+/// Where in the record each of its numbers stands.
+fn places(case: &Case) -> Vec<&'static str> {
+    let [head, dependencies, write_orders, counts] = OTHERS;
+    let mut places = vec![head; 3 + case.addresses()];
+    places.push(counts);
+    for event in &case.events {
+        places.extend(if event.is_barrier() {
+            &FIELDS[..2]
+        } else {
+            &FIELDS
+        });
+    }
+    if case.edition == SECOND {
+        places.push(counts);
+        places.extend(vec![dependencies; 3 * case.dependencies.len()]);
+    }
+    let listed = case.write_orders.iter().map(Vec::len).sum();
+    places.extend(vec![write_orders; listed]);
+    for order in &case.orders {
+        places.push(counts);
+        let pairs = order.pairs(case.events.len());
+        places.extend((0..pairs.len()).flat_map(|i| [place_of_pair(&pairs, i); 2]));
+    }
+    places.push(counts);
+    places
+}
+
+fn place_of_pair(pairs: &[(usize, usize)], i: usize) -> &'static str {
+    let [front, inside, end, last] = PAIRS;
+    let row = |i: usize| pairs.get(i).map(|pair| pair.0);
+    if row(i) == row(pairs.len() - 1) {
+        last
+    } else if row(i) != row(i + 1) {
+        end
+    } else if i == 0 || row(i) != row(i - 1) {
+        front
+    } else {
+        inside
+    }
+}
+
+/// Other numbers than this one: its neighbours, the one two before it, those at limits. Then numbers
+/// of more groups, not in the shortest form, too great, or unfinished.
+fn forms(value: u32, two_before: u32, events: usize) -> Vec<Vec<u8>> {
+    let near = [value.saturating_sub(1), value.saturating_add(1), two_before];
+    let last = (events as u32).saturating_sub(1);
+    let limits = [0, last, last + 1, 64, 127, 128, VALUE];
+    let others = near
+        .into_iter()
+        .chain(limits)
+        .filter(|&other| other != value);
+    let mut forms: Vec<Vec<u8>> = others.map(|other| number(other.into())).collect();
+    let low = value as u8 | 128;
+    forms.extend([&[low][..], &[low, 0], &[low, 1], &[low, 128, 0]].map(<[u8]>::to_vec));
+    for last in [0, 1, 16, 128] {
+        let mut form = vec![128; GROUPS];
+        (form[0], form[GROUPS - 1]) = (low, last);
+        forms.push(form);
+    }
+    forms
+}
