@@ -11,7 +11,7 @@ use lib.ListN.{getD}
 use lib.Bits.{bitOr}
 use borrow.Author.Tests.{lt-ltb, not-true, not-false}
 use Rattle.finite.specs.Tests.{count, _⇒_}
-use Rattle.finite.proofs.Tests.{and-l, count-same, all-same, some-same, eqb-sym}
+use Rattle.finite.proofs.Tests.{and-l, and-r, count-same, all-same, some-same, eqb-sym}
 use Rattle.finite.proofs.Lists.{table-get}
 use Rattle.bits.specs.Bit.{bit}
 use Rattle.bits.proofs.Bits.{bit-or}
@@ -22,12 +22,14 @@ use Rattle.model.specs.Rules.{Model, PPCw, PPCs, first, kind, thread, address, 
 use Rattle.case.specs.declared.Case.{Case as Held}
 use Rattle.case.specs.Held.{linkCount, caseOf}
 use Rattle.case.specs.Sound.{Sound}
-use Rattle.rows.specs.Sets.{Set, Sets, orderIn, setIn, storeIn, lightIn, applicableIn, dependsIn}
+use Rattle.rows.specs.Sets.{Set, Sets, orderIn, setIn, storeIn, dependsIn}
 use Rattle.rows.specs.May.{pairs, mustRead, may11, may12, may13, may14, may15, may16, may17, may18}
 use Rattle.orders.specs.Parts.{writesIn, writtenIn}
 use Rattle.values.specs.Parts.{equalIn, threadIn}
+use Rattle.columns.specs.Columns.{Columns}
+use Rattle.by_columns.specs.Parts.{Turned, Shared, appliesIn, readIn}
 use Rattle.rules.specs.declared.EventSets.{EventSets}
-use Rattle.rules.specs.Verdict.{Agrees, Seen, Judged, modelOf, sharedIn, seenIn, judgedIn, freshIn, orderVerdict, valueVerdict, barrierVerdict}
+use Rattle.rules.specs.Verdict.{Agrees, Listed, Seen, Judged, modelOf, sharedIn, seenIn, judgedIn, freshIn, orderVerdict, valueVerdict, barrierVerdict, orderBroken, valueBroken, barrierBroken}
 use Rattle.rules.proofs.Means.{thread-in, address-in, value-in, initial-in, before-in, load-in, store-in, sync-in, barrier-in, of-in, depends-in, load-full, store-full, full-kind, twice-not, not-not}
 
 -- under a test
@@ -220,11 +222,13 @@ module _ (c : Held) (g : EventSets) (sound : Sound c) (agree : Agrees (caseOf c)
   -- ---- 17 and 18
 
   applicable-in : (f : ℕ) → f < c .events → (e : ℕ) → e < c .events → (h : ℕ) → h < c .events
-      → applicableIn (g .syncs) (g .light) f e h ≡ applicable (caseOf c) f e h
+      → appliesIn (g .barriers) (g .syncs) (g .stores) (g .loads) f e h ≡ applicable (caseOf c) f e h
   unfolding applicable caseOf
-  applicable-in f lf e le h lh = ap₂ (λ x y. x || y) (agree .sync f lf) (agree .light e le h lh)
+  applicable-in f lf e le h lh =
+      ap₂ (λ x y. x || y) (agree .sync f lf)
+      (ap₂ (λ x y. x && not y) (ap₂ (λ x y. not x && not y) (agree .barrier e le) (agree .barrier h lh)) (ap₂ (λ x y. x && y) (agree .store e le) (agree .load h lh)))
 
-  pub same17 : may17 (c .threads) (c .events) (setIn (g .own)) (bit (g .barriers)) (applicableIn (g .syncs) (g .light)) (orderIn (c .rows)) (orderIn (c .rows)) ≡ rule17 (caseOf c)
+  pub same17 : may17 (c .threads) (c .events) (setIn (g .own)) (bit (g .barriers)) (appliesIn (g .barriers) (g .syncs) (g .stores) (g .loads)) (orderIn (c .rows)) (orderIn (c .rows)) ≡ rule17 (caseOf c)
   unfolding may17 rule17 everywhere caseOf
   same17 =
       let o = before-in c in
@@ -253,23 +257,72 @@ module _ (c : Held) (g : EventSets) (sound : Sound c) (agree : Agrees (caseOf c)
       (all-same (c .events) _ _ (λ x lx.
       ap₂ (λ u w. u ⇒ w) (ap₂ (λ u w. u && not (eqb x s) && w) (store-for l ll x lx) (o x lx l ll)) (o x lx s ls)))
 
-  pub same18 : {read : List ℕ}
-      → Sets (c .events) read (λ l s. ltb s (c .events)
-      && mustRead (c .events) (bit (g .loads)) (storeIn (g .stores) (g .partners)) (threadIn (c .thread)) (orderIn (c .rows)) (orderIn (c .rows)) l s)
-      → may18 (c .threads) (c .events) (setIn (g .own)) (bit (g .barriers)) (applicableIn (g .syncs) (g .light)) (bit (g .stores)) (setIn read) (threadIn (c .thread)) (orderIn (c .rows)) (orderIn (c .rows)) ≡ rule18 (caseOf c)
+  pub same18 : may18 (c .threads) (c .events) (setIn (g .own)) (bit (g .barriers)) (appliesIn (g .barriers) (g .syncs) (g .stores) (g .loads)) (bit (g .stores)) (readIn (c .events) (g .loads) (g .stores) (g .partners) (c .thread) (c .rows)) (threadIn (c .thread)) (orderIn (c .rows)) (orderIn (c .rows))
+      ≡ rule18 (caseOf c)
   unfolding may18 rule18 everywhere caseOf
-  same18 {read} r =
+  same18 =
       let o = before-in c in
       all-same (c .threads) _ _ (λ p lp. all-same (c .events) _ _ (λ f lf.
       ap₂ (λ x y. x ⇒ y) (ap₂ (λ x y. x && y) (agree .barrier f lf) (agree .own p lp f lf))
       (all-same (c .events) _ _ (λ s ls.
       ap₂ (λ x y. x ⇒ y) (ap₂ (λ x y. x && y) (ap₂ (λ x y. x && y) (agree .store s ls) (agree .own p lp s ls)) (o p lp f lf s ls))
       (all-same (c .events) _ _ (λ l ll.
-      ap₂ (λ x y. x ⇒ y)
-      (r .has l ll s ∙ ap (λ t. t && mustRead (c .events) (bit (g .loads)) (storeIn (g .stores) (g .partners)) (threadIn (c .thread)) (orderIn (c .rows)) (orderIn (c .rows)) l s) (lt-ltb s (c .events) ls) ∙ must-read-in l ll s ls)
+      ap₂ (λ x y. x ⇒ y) (must-read-in l ll s ls)
       (all-same (c .events) _ _ (λ h lh. ap₂ (λ x y. x ⇒ y) (at-thread l ll l ll h lh)
       (all-same (c .events) _ _ (λ e le. ap₂ (λ x y. x ⇒ y) (ap₂ (λ x y. x && y) (o p lp e le f lf) (applicable-in f lf e le h lh))
       (all-same (c .threads) _ _ (λ q lq. o q lq e le h lh))))))))))))
+
+  -- what the tests require
+  pub shared : Shared (c .threads) (c .events) (g .partners) (c .thread)
+  unfolding oneAddress caseOf
+  shared = record {
+    same = λ a la b lb. agree .partner a la b lb ∙ turn (not (isBarrier (caseOf c) a)) (not (isBarrier (caseOf c) b)) (eqb-sym (address (caseOf c) a) (address (caseOf c) b)) ∙ sym (agree .partner b lb a la);
+    thread = sound .thread;
+  }
+    where
+      turn : (x y : Bool) {z w : Bool} → z ≡ w → (x && y && z) ≡ (y && x && w)
+      turn true true h = h
+      turn true false h = refl
+      turn false true h = refl
+      turn false false h = refl
+
+  pub listed : Listed (c .events) (g .stores) (g .partners) (c .address) (c .writes)
+  listed = record { address = store-address; written = store-written }
+
+  -- the verdict's parts, by rows and sets
+  pub order-is : orderBroken (c .threads) (c .events) (g .own) (g .barriers) (g .stores) (g .partners) (g .dependents) (c .address) (c .writes) (c .rows) ≡ orderVerdict (caseOf c)
+  unfolding orderVerdict
+  order-is = rw (same11 c, same12, same13, same14) refl
+
+  pub value-is : {judge those : List ℕ} {fresh : ℕ} (w : Model) → Judged (caseOf c) w judge → Seen (caseOf c) those
+      → Set fresh (λ l. ltb l (c .events) && freshIn (g .loads) (c .value) (c .address) (c .initial) l)
+      → valueBroken (c .threads) (c .events) judge those fresh (g .stores) (g .partners) (c .value) (c .rows) ≡ valueVerdict (caseOf c) w
+  unfolding valueVerdict
+  value-is w j v f = rw (same15 w j f, same16 w j v) refl
+
+  pub barrier-is : barrierBroken (c .threads) (c .events) (g .own) (g .barriers) (g .syncs) (g .stores) (g .loads) (g .partners) (c .thread) (c .rows) ≡ barrierVerdict (caseOf c)
+  unfolding barrierVerdict
+  barrier-is = rw (same17, same18) refl
+
+-- the columns are those of the case's rows
+pub turned : {c : Held} {columns : List ℕ} → Sound c → Columns (c .threads) (c .events) (c .rows) columns → Turned (c .threads) (c .events) (c .rows) columns
+turned sound t = record { threads = sound .threads-most; events = sound .events-most; turned = t }
+
+-- a load comes after the store from which it must read, in its thread's order
+pub read-later : (k loads stores : ℕ) (partners threads rows : List ℕ) (l s : ℕ) → readIn k loads stores partners threads rows l s ≡ true → orderIn rows (threadIn threads l) s l ≡ true
+unfolding mustRead
+read-later k loads stores partners threads rows l s h =
+    and-r (bit loads l && storeIn stores partners l s) (orderIn rows (threadIn threads l) s l)
+    (and-l (bit loads l && storeIn stores partners l s && orderIn rows (threadIn threads l) s l) _ h)
+
+-- where no rule from 11 to 14 is broken, 11 holds
+pub no-order : (c : Held) → orderVerdict (caseOf c) ≡ 0 → may11 (c .threads) (c .events) (orderIn (c .rows)) (orderIn (c .rows)) ≡ true
+unfolding orderVerdict
+no-order c h = same11 c ∙ go (rule11 (caseOf c)) _ h
+  where
+    go : (x : Bool) (rest : ℕ) → orElse x 11 rest ≡ 0 → x ≡ true
+    go true rest h = refl
+    go false rest h = absurd (omega arith)
 
 -- ---- the verdict, rule by rule
 
@@ -280,6 +333,10 @@ module _ {x a : Bool} (e : x ≡ a) (i rest : ℕ) where
 
   pub goes-on : not x ≡ false → {r : ℕ} → r ≡ rest → r ≡ orElse a i rest
   goes-on t h = h ∙ ap (λ b. orElse b i rest) (sym (sym e ∙ not-false x t))
+
+-- two rules that hold
+pub none-broken : (i j : ℕ) {a b : Bool} → a ≡ true → b ≡ true → 0 ≡ orElse a i (orElse b j 0)
+none-broken i j h g = sym (ap₂ (λ x y. orElse x i (orElse y j 0)) h g)
 
 -- the verdict by its three parts
 module _ (c : Held) (w : Model) where
@@ -396,16 +453,15 @@ module _ (c : Held) (sound : Sound c) {l s : ℕ}
       by true false x y = ap₂ (λ u v. u && v && same) (sym x ∙ access-in a la) (sym y ∙ access-in b lb)
       by false z x y = ap (λ u. u && not (bare (getD (c .kind) b 0)) && same) (sym x ∙ access-in a la)
 
-  pub agrees : {f every b : ℕ} {mine partners dependents light : List ℕ} → Set f (λ e. ltb e (c .events) && eqb (getD (c .kind) e 0) sync)
+  pub agrees : {f every b : ℕ} {mine partners dependents : List ℕ} → Set f (λ e. ltb e (c .events) && eqb (getD (c .kind) e 0) sync)
       → Set every (λ e. ltb e (c .events))
       → Sets mostThreads mine (λ x e. bit every e && (ltb e (c .events) && eqb (getD (c .thread) e 0) x))
       → Sets (c .events) partners (sharedIn (c .events) (bitOr l s) (c .address))
       → Set b (λ e. bit every e && not (bit (bitOr l s) e))
-      → Sets (c .events) light (λ e g. ltb g (c .events) && lightIn b s l e g)
       → Sets mostEvents dependents (depends (caseOf c))
-      → Agrees (caseOf c) (record { own = mine; loads = l; stores = s; barriers = b; syncs = f; partners = partners; dependents = dependents; light = light })
+      → Agrees (caseOf c) (record { own = mine; loads = l; stores = s; barriers = b; syncs = f; partners = partners; dependents = dependents })
   unfolding caseOf
-  agrees {b} syncs all-below own p barriers w d = record {
+  agrees {b = b} syncs all-below own p barriers d = record {
     own = λ x lx e le.
         own .has x (lt-of-lt-of-le lx (sound .threads-most)) e
         ∙ ap (λ t. t && (ltb e (c .events) && eqb (getD (c .thread) e 0) x)) (all-below .has e ∙ lt-ltb e (c .events) le)
@@ -416,9 +472,6 @@ module _ (c : Held) (sound : Sound c) {l s : ℕ}
     sync = λ e le. syncs .has e ∙ here e le (eqb (getD (c .kind) e 0) sync) ∙ sym (sync-in c e le);
     partner = λ x lx y ly. p .has x lx y ∙ one-address x lx y ly;
     dependent = λ x lx y ly. d .has x (lt-of-lt-of-le lx (sound .events-most)) y;
-    light = λ x lx y ly.
-        w .has x lx y ∙ here y ly (lightIn b s l x y)
-        ∙ ap₂ (λ u v. u && not v) (ap₂ (λ u v. not u && not v) (is-barrier x lx) (is-barrier y ly)) (ap₂ (λ u v. u && v) (is-store x lx) (is-load y ly));
   }
     where
       is-load : (e : ℕ) → e < c .events → bit l e ≡ isLoad (caseOf c) e

@@ -1,6 +1,6 @@
 -- A struct's sets against the case that it means, and the parts of its verdict.
 -- Assumes nothing.
-use Prim.Native.Nat.{ℕ, _<_}
+use Prim.Native.Nat.{ℕ, _+_, _*_, _<_}
 use mathlib.Core.Path.{_≡_}
 use mathlib.Core.Bool.{Bool, true, false, not, _&&_, _||_}
 use mathlib.Core.List.{List}
@@ -9,8 +9,13 @@ use lib.ListN.{getD}
 use Rattle.bits.specs.Bit.{bit}
 use Rattle.model.specs.Case.{Case}
 use Rattle.model.specs.Rules.{Model, PPCw, PPCs, of, isLoad, isStore, isSync, isBarrier, oneAddress, depends, seen, judged, orElse, rule11, rule12, rule13, rule14, rule15, rule16, rule17, rule18}
-use Rattle.rows.specs.Sets.{orderIn, setIn}
-use Rattle.rows.specs.May.{pairs}
+use Rattle.finite.specs.Tests.{count}
+use Rattle.model.specs.Limits.{mostAddresses, mostEvents}
+use Rattle.rows.specs.Sets.{orderIn, setIn, storeIn}
+use Rattle.rows.specs.May.{Relation, pairs, may11, may12, may13, may14, may15, may16, may17, may18}
+use Rattle.orders.specs.Parts.{writtenIn}
+use Rattle.values.specs.Parts.{equalIn, threadIn}
+use Rattle.by_columns.specs.Parts.{appliesIn, readIn}
 use Rattle.rules.specs.declared.EventSets.{EventSets}
 
 -- PPCs or PPCw
@@ -27,7 +32,11 @@ pub record Agrees (c : Case) (g : EventSets) : Type 0 where
   pub sync : (e : ℕ) → e < c .k → bit (g .syncs) e ≡ isSync c e
   pub partner : (a : ℕ) → a < c .k → (b : ℕ) → b < c .k → setIn (g .partners) a b ≡ oneAddress c a b
   pub dependent : (a : ℕ) → a < c .k → (b : ℕ) → b < c .k → setIn (g .dependents) a b ≡ depends c a b
-  pub light : (a : ℕ) → a < c .k → (b : ℕ) → b < c .k → setIn (g .light) a b ≡ (not (isBarrier c a) && not (isBarrier c b) && not (isStore c a && isLoad c b))
+
+-- of a store among k, the stores to its address are listed in the write order: what their listing holds are events
+pub record Listed (k stores : ℕ) (partners addresses writes : List ℕ) : Type 0 where
+  pub address : (a : ℕ) → a < k → bit stores a ≡ true → getD addresses a 0 < mostAddresses
+  pub written : (a : ℕ) → a < k → bit stores a ≡ true → (i : ℕ) → i < count k (storeIn stores partners a) → getD writes (getD addresses a 0 * mostEvents + i) 0 < k
 
 -- by thread, the sets are V(p)
 pub record Seen (c : Case) (sets : List ℕ) : Type 0 where
@@ -68,3 +77,26 @@ module _ (c : Case) where
 
   unfoldable pub barrierVerdict : ℕ
   barrierVerdict = orElse (rule17 c) 17 (orElse (rule18 c) 18 0)
+
+-- the same by a struct's rows and sets, of n threads and k events
+module _ (n k : ℕ) where
+  abbrev pub orderBroken : (own : List ℕ) (barriers stores : ℕ) (partners dependents addresses writes rows : List ℕ) → ℕ
+  orderBroken own barriers stores partners dependents addresses writes rows =
+      let before : Relation = orderIn rows in
+      orElse (may11 n k before before) 11
+      (orElse (may12 n k (setIn own) before) 12
+      (orElse (may13 n k (setIn own) (bit barriers) (setIn partners) (setIn dependents) before) 13
+      (orElse (may14 n k (bit stores) (storeIn stores partners) (writtenIn k stores partners addresses writes) before) 14 0)))
+
+  abbrev pub valueBroken : (judged seen : List ℕ) (fresh stores : ℕ) (partners values rows : List ℕ) → ℕ
+  valueBroken judged seen fresh stores partners values rows =
+      let before : Relation = orderIn rows in
+      orElse (may15 n k (setIn judged) (bit fresh) (storeIn stores partners) before) 15
+      (orElse (may16 n k (setIn judged) (setIn seen) (storeIn stores partners) (equalIn values) before) 16 0)
+
+  abbrev pub barrierBroken : (own : List ℕ) (barriers syncs stores loads : ℕ) (partners threads rows : List ℕ) → ℕ
+  barrierBroken own barriers syncs stores loads partners threads rows =
+      let before : Relation = orderIn rows in
+      let applies : ℕ → ℕ → ℕ → Bool = appliesIn barriers syncs stores loads in
+      orElse (may17 n k (setIn own) (bit barriers) applies before before) 17
+      (orElse (may18 n k (setIn own) (bit barriers) applies (bit stores) (readIn k loads stores partners threads rows) (threadIn threads) before before) 18 0)

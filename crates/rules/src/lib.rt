@@ -7,16 +7,18 @@ ghost use lib.ListN.{getD};
 ghost use Rattle.finite.specs.Tests.{count};
 ghost use Rattle.bits.specs.Bit.{bit};
 ghost use Rattle.model.specs.Limits.{mostThreads, mostAddresses, mostEvents};
-ghost use Rattle.model.specs.Rules.{Model, depends, rule11, rule12, rule13, rule14, rule15, rule16, rule17, rule18, verdict as verdictOf, finals as finalsOf};
+ghost use Rattle.model.specs.Rules.{verdict as verdictOf, finals as finalsOf};
 ghost use Rattle.case.specs.Held.{caseOf};
 ghost use Rattle.case.specs.Sound.{Sound};
-ghost use Rattle.rows.specs.Sets.{Set, Sets};
+ghost use Rattle.rows.specs.Sets.{Set, Sets, orderIn};
+ghost use Rattle.rows.specs.May.{may11};
+ghost use Rattle.by_columns.specs.Parts.{Turned, Shared};
 ghost use Rattle.rules.specs.Finals.{storedIn, valueIn, lastIn, finalIn};
-ghost use Rattle.rules.specs.Verdict.{Agrees, Seen, Judged, modelOf, sharedIn, seenIn, chosenIn, judgedIn, freshIn, orderVerdict, valueVerdict, barrierVerdict};
+ghost use Rattle.rules.specs.Verdict.{Agrees, Listed, modelOf, sharedIn, seenIn, chosenIn, judgedIn, freshIn, orderBroken, valueBroken, barrierBroken};
 use case::Case;
 
 // The sets of a case's events: those of each thread; loads, stores, barriers and, of these, syncs; and by event those that use
-// its address, those that depend on it, and those that an lwsync orders after it.
+// its address and those that depend on it.
 pub struct EventSets {
     pub own: [u64; Case::MOST_THREADS],
     pub loads: u64,
@@ -25,7 +27,6 @@ pub struct EventSets {
     pub syncs: u64,
     pub partners: [u64; Case::MOST_EVENTS],
     pub dependents: [u64; Case::MOST_EVENTS],
-    pub light: [u64; Case::MOST_EVENTS],
 }
 
 // By event of the set, the events of the set that use its address.
@@ -36,15 +37,6 @@ fn sharing(addresses: &[u8; Case::MOST_EVENTS], k: usize, set: u64) -> [u64; Cas
 {
     let those = rows::by_label(addresses, k, set);
     rows::by_event(&those, addresses, k, set)
-}
-
-// By event, the events that depend on it.
-fn dependents(c: Case) -> [u64; Case::MOST_EVENTS]
-    requires { ⌜ Sound c ⌝ }
-    ensures { λ r. ⌜ Sets mostEvents r (depends (caseOf c)) ⌝ }
-{
-    let count = case::link_count(c.edition, c.dependencies);
-    rows::dependents(&c.from, &c.to, count)
 }
 
 // The sets of a case. `Agrees` speaks of its threads and events; what the sets hold beyond these numbers is left open, since every
@@ -62,7 +54,8 @@ fn gather(c: Case) -> EventSets
     let accesses = loads | stores;
     let partners = sharing(&c.address, k, accesses);
     let barriers = rows::minus(every, accesses);
-    let light = rows::light(barriers, stores, loads, k);
+    let links = case::link_count(c.edition, c.dependencies);
+    let dependents = rows::dependents(&c.from, &c.to, links);
     EventSets {
         own,
         loads,
@@ -70,8 +63,7 @@ fn gather(c: Case) -> EventSets
         barriers,
         syncs,
         partners,
-        dependents: dependents(c),
-        light,
+        dependents,
     }
 }
 
@@ -118,23 +110,6 @@ fn judged_sets(
     out
 }
 
-// By thread, V(p) and the loads that rules 15 and 16 speak of.
-struct ThreadViews {
-    seen: [u64; Case::MOST_THREADS],
-    judged: [u64; Case::MOST_THREADS],
-}
-
-fn views(c: Case, g: EventSets, strong: bool) -> ThreadViews
-    requires { ⌜ Sound c ⌝ }
-    requires { ⌜ Agrees (caseOf c) g ⌝ }
-    ensures { λ r. ⌜ Seen (caseOf c) (r .seen) ⌝ }
-    ensures { λ r. ⌜ Judged (caseOf c) (modelOf strong) (r .judged) ⌝ }
-{
-    let seen = seen_sets(&c.rows, &g.own, c.threads, c.events);
-    let judged = judged_sets(strong, g.loads, &g.own, &seen, c.threads);
-    ThreadViews { seen, judged }
-}
-
 // Load l, if it holds its address's initial value.
 fn fresh_load(
     loads: u64,
@@ -173,187 +148,116 @@ fn fresh_loads<'a>(
     found
 }
 
-// Rule 11 of the case.
-fn obeys11(c: Case) -> bool
-    requires { ⌜ Sound c ⌝ }
-    ensures { λ r. ⌜ r ≡ rule11 (caseOf c) ⌝ }
-{
-    orders::rule11(&c.rows, &c.rows, c.threads, c.events)
-}
-
-// Rule 12 of the case.
-fn obeys12(c: Case, g: EventSets) -> bool
-    requires { ⌜ Sound c ⌝ }
-    requires { ⌜ Agrees (caseOf c) g ⌝ }
-    ensures { λ r. ⌜ r ≡ rule12 (caseOf c) ⌝ }
-{
-    orders::rule12(&g.own, &c.rows, c.threads, c.events)
-}
-
-// Rule 13 of the case.
-fn obeys13(c: Case, g: EventSets) -> bool
-    requires { ⌜ Sound c ⌝ }
-    requires { ⌜ Agrees (caseOf c) g ⌝ }
-    ensures { λ r. ⌜ r ≡ rule13 (caseOf c) ⌝ }
-{
-    orders::rule13(
-        &g.own,
-        g.barriers,
-        &g.partners,
-        &g.dependents,
-        &c.rows,
-        c.threads,
-        c.events,
-    )
-}
-
-// Rule 14 of the case.
-fn obeys14(c: Case, g: EventSets) -> bool
-    requires { ⌜ Sound c ⌝ }
-    requires { ⌜ Agrees (caseOf c) g ⌝ }
-    ensures { λ r. ⌜ r ≡ rule14 (caseOf c) ⌝ }
-{
-    orders::rule14(
-        &c.rows,
-        g.stores,
-        &g.partners,
-        &c.address,
-        &c.writes,
-        c.threads,
-        c.events,
-    )
-}
-
 // The lowest broken of rules 11 to 14, or 0.
-fn broken_order(c: Case, g: EventSets) -> u8
-    requires { ⌜ Sound c ⌝ }
-    requires { ⌜ Agrees (caseOf c) g ⌝ }
-    ensures { λ r. ⌜ r ≡ orderVerdict (caseOf c) ⌝ }
+fn broken_order<'a>(
+    own: &'a [u64; Case::MOST_THREADS],
+    barriers: u64,
+    stores: u64,
+    partners: &'a [u64; Case::MOST_EVENTS],
+    dependents: &'a [u64; Case::MOST_EVENTS],
+    addresses: &'a [u8; Case::MOST_EVENTS],
+    writes: &'a [u8; Case::MOST_ADDRESSES * Case::MOST_EVENTS],
+    rows: &'a [u64; Case::MOST_THREADS * Case::MOST_EVENTS],
+    columns: &'a [u64; Case::MOST_THREADS * Case::MOST_EVENTS],
+    n: usize,
+    k: usize,
+) -> u8
+    requires { ⌜ Turned n k (now rows) (now columns) ⌝ }
+    requires { ⌜ Listed k stores (now partners) (now addresses) (now writes) ⌝ }
+    ensures { λ r. ⌜ r ≡ orderBroken n k (now (own .entry)) barriers stores (now (partners .entry)) (now (dependents .entry)) (now (addresses .entry)) (now (writes .entry)) (now (rows .entry)) ⌝ }
 {
-    if !obeys11(c) {
+    if !one_order::rule11(rows, n, k) {
         return 11;
     }
-    if !obeys12(c, g) {
+    if !by_columns::rule12(own, rows, columns, n, k) {
         return 12;
     }
-    if !obeys13(c, g) {
+    if !orders::rule13(own, barriers, partners, dependents, rows, n, k) {
         return 13;
     }
-    if !obeys14(c, g) {
+    if !orders::rule14(rows, stores, partners, addresses, writes, n, k) {
         return 14;
     }
     0
 }
 
-// Rule 15 of the case, of the judged loads.
-fn obeys15(c: Case, g: EventSets, judged: &[u64; Case::MOST_THREADS]) -> bool
-    requires { ⌜ Sound c ⌝ }
-    requires { ⌜ Agrees (caseOf c) g ⌝ }
-    ensures { λ r. ⌜ ((w : Model) → Judged (caseOf c) w (now (judged .entry)) → r ≡ rule15 (caseOf c) w) ⌝ }
-{
-    let k = c.events;
-    let fresh = fresh_loads(g.loads, &c.value, &c.address, &c.initial, k);
-    values::rule15(judged, fresh, g.stores, &g.partners, &c.rows, c.threads, k)
-}
-
-// Rule 16 of the case, of the judged loads and the seen stores.
-fn obeys16<'a>(
-    c: Case,
-    g: EventSets,
-    seen: &'a [u64; Case::MOST_THREADS],
-    judged: &'a [u64; Case::MOST_THREADS],
-) -> bool
-    requires { ⌜ Sound c ⌝ }
-    requires { ⌜ Agrees (caseOf c) g ⌝ }
-    ensures { λ r. ⌜ ((w : Model) → Seen (caseOf c) (now (seen .entry)) → Judged (caseOf c) w (now (judged .entry)) → r ≡ rule16 (caseOf c) w) ⌝ }
-{
-    values::rule16(
-        judged,
-        seen,
-        g.stores,
-        &g.partners,
-        &c.value,
-        &c.rows,
-        c.threads,
-        c.events,
-    )
-}
-
 // The lowest broken of rules 15 and 16, or 0.
-fn broken_value(c: Case, g: EventSets, strong: bool) -> u8
-    requires { ⌜ Sound c ⌝ }
-    requires { ⌜ Agrees (caseOf c) g ⌝ }
-    ensures { λ r. ⌜ r ≡ valueVerdict (caseOf c) (modelOf strong) ⌝ }
+fn broken_value<'a>(
+    judged: &'a [u64; Case::MOST_THREADS],
+    seen: &'a [u64; Case::MOST_THREADS],
+    fresh: u64,
+    stores: u64,
+    partners: &'a [u64; Case::MOST_EVENTS],
+    values: &'a [u32; Case::MOST_EVENTS],
+    rows: &'a [u64; Case::MOST_THREADS * Case::MOST_EVENTS],
+    columns: &'a [u64; Case::MOST_THREADS * Case::MOST_EVENTS],
+    n: usize,
+    k: usize,
+) -> u8
+    requires { ⌜ Turned n k (now rows) (now columns) ⌝ }
+    ensures { λ r. ⌜ r ≡ valueBroken n k (now (judged .entry)) (now (seen .entry)) fresh stores (now (partners .entry)) (now (values .entry)) (now (rows .entry)) ⌝ }
 {
-    let v = views(c, g, strong);
-    if !obeys15(c, g, &v.judged) {
+    if !by_columns::rule15(judged, fresh, stores, partners, rows, columns, n, k) {
         return 15;
     }
-    if !obeys16(c, g, &v.seen, &v.judged) {
+    if !by_columns::rule16(judged, seen, stores, partners, values, rows, columns, n, k) {
         return 16;
     }
     0
 }
 
-// Rule 17 of the case.
-fn obeys17(c: Case, g: EventSets) -> bool
-    requires { ⌜ Sound c ⌝ }
-    requires { ⌜ Agrees (caseOf c) g ⌝ }
-    ensures { λ r. ⌜ r ≡ rule17 (caseOf c) ⌝ }
+// The lowest broken of rules 17 and 18, or 0, where rule 11 holds: if all threads' orders are alike, both do.
+fn broken_barrier<'a>(
+    own: &'a [u64; Case::MOST_THREADS],
+    barriers: u64,
+    syncs: u64,
+    stores: u64,
+    loads: u64,
+    partners: &'a [u64; Case::MOST_EVENTS],
+    threads: &'a [u8; Case::MOST_EVENTS],
+    rows: &'a [u64; Case::MOST_THREADS * Case::MOST_EVENTS],
+    columns: &'a [u64; Case::MOST_THREADS * Case::MOST_EVENTS],
+    n: usize,
+    k: usize,
+) -> u8
+    requires { ⌜ Turned n k (now rows) (now columns) ⌝ }
+    requires { ⌜ Shared n k (now partners) (now threads) ⌝ }
+    requires { ⌜ 1 ≤ n ⌝ }
+    requires { ⌜ may11 n k (orderIn (now rows)) (orderIn (now rows)) ≡ true ⌝ }
+    ensures { λ r. ⌜ r ≡ barrierBroken n k (now (own .entry)) barriers syncs stores loads (now (partners .entry)) (now (threads .entry)) (now (rows .entry)) ⌝ }
 {
-    values::rule17(
-        &g.own,
-        g.barriers,
-        g.syncs,
-        &g.light,
-        &c.rows,
-        &c.rows,
-        c.threads,
-        c.events,
-    )
-}
-
-// Rule 18 of the case.
-fn obeys18(c: Case, g: EventSets) -> bool
-    requires { ⌜ Sound c ⌝ }
-    requires { ⌜ Agrees (caseOf c) g ⌝ }
-    ensures { λ r. ⌜ r ≡ rule18 (caseOf c) ⌝ }
-{
-    let k = c.events;
-    let read = values::reads_from(
-        g.loads,
-        g.stores,
-        &g.partners,
-        &c.thread,
-        &c.rows,
-        &c.rows,
+    if one_order::alike(rows, n, k) {
+        return 0;
+    }
+    let joined = one_order::joined(columns, n, k);
+    if !by_columns::rule17(
+        own,
+        barriers,
+        syncs,
+        stores,
+        loads,
+        rows,
+        columns,
+        &joined,
+        n,
         k,
-    );
-    values::rule18(
-        &g.own,
-        g.barriers,
-        g.syncs,
-        &g.light,
-        g.stores,
-        &read,
-        &c.thread,
-        &c.rows,
-        &c.rows,
-        c.threads,
-        k,
-    )
-}
-
-// The lowest broken of rules 17 and 18, or 0.
-fn broken_barrier(c: Case, g: EventSets) -> u8
-    requires { ⌜ Sound c ⌝ }
-    requires { ⌜ Agrees (caseOf c) g ⌝ }
-    ensures { λ r. ⌜ r ≡ barrierVerdict (caseOf c) ⌝ }
-{
-    if !obeys17(c, g) {
+    ) {
         return 17;
     }
-    if !obeys18(c, g) {
+    if !by_columns::rule18(
+        own,
+        barriers,
+        syncs,
+        stores,
+        loads,
+        partners,
+        threads,
+        rows,
+        columns,
+        &joined,
+        n,
+        k,
+    ) {
         return 18;
     }
     0
@@ -364,16 +268,57 @@ pub fn verdict(c: Case, strong: bool) -> u8
     requires { ⌜ Sound c ⌝ }
     ensures { λ r. ⌜ r ≡ verdictOf (caseOf c) (modelOf strong) ⌝ }
 {
+    let n = c.threads;
+    let k = c.events;
     let g = gather(c);
-    let x = broken_order(c, g);
+    let columns = columns::columns(&c.rows, n, k);
+    let x = broken_order(
+        &g.own,
+        g.barriers,
+        g.stores,
+        &g.partners,
+        &g.dependents,
+        &c.address,
+        &c.writes,
+        &c.rows,
+        &columns,
+        n,
+        k,
+    );
     if x != 0 {
         return x;
     }
-    let y = broken_value(c, g, strong);
+    let seen = seen_sets(&c.rows, &g.own, n, k);
+    let judged = judged_sets(strong, g.loads, &g.own, &seen, n);
+    let fresh = fresh_loads(g.loads, &c.value, &c.address, &c.initial, k);
+    let y = broken_value(
+        &judged,
+        &seen,
+        fresh,
+        g.stores,
+        &g.partners,
+        &c.value,
+        &c.rows,
+        &columns,
+        n,
+        k,
+    );
     if y != 0 {
         return y;
     }
-    broken_barrier(c, g)
+    broken_barrier(
+        &g.own,
+        g.barriers,
+        g.syncs,
+        g.stores,
+        g.loads,
+        &g.partners,
+        &c.thread,
+        &c.rows,
+        &columns,
+        n,
+        k,
+    )
 }
 
 // The value of event e, 0 if it is a barrier.

@@ -214,7 +214,7 @@ module _ (k n : ℕ) (c s : ℕ → Bool) (r d applies : ℕ → ℕ → Bool) (
       = simp (all-iff, and-iff, imp-iff) at t in
       simp (all-iff, and-iff, imp-iff) (λ e le hc q lq l ll x lx hrs g lg hd ha. h x lx (hrs .1) l ll (hrs .0) g lg hd e le (hc, ha) q lq)
 
-  store-by-store : carried k n c (λ g. some k λ l. (some k λ x. r l x && s x) && d l g) applies asked
+  pub store-by-store : carried k n c (λ g. some k λ l. (some k λ x. r l x && s x) && d l g) applies asked
       ≡ all k (λ x. s x ⇒ all k (λ l. r l x ⇒ all k (λ g. d l g ⇒ all k (λ e. (c e && applies e g) ⇒ all n (λ q. asked q e g)))))
   store-by-store =
       spread

@@ -1,6 +1,7 @@
 -- `rules::gather` meets its contract. Assumes nothing.
 use borrow.Author.Needs.{needs}
-use Rattle.rules.proofs.Same.{access-address, agrees}
+use native.Mathlib.Omega.{arith}
+use Rattle.rules.proofs.Same.{access-address, agrees, depends-within, depends-by}
 use Rattle.rows.proofs.SetLaws.{set-below}
 use Rattle.rules.proofs.gather.Statement.{statement}
 use Rattle.rules.proofs.gather.Tie as tie
@@ -21,13 +22,15 @@ gather-spec =
     (s .pre .events-most, access-address (s .args .t1) (s .pre) (loads .labelled .ensures) (stores .labelled2 .ensures)))
     (λ c κs. search needs)
     (λ c κs. search needs)
-    (λ c κs. search needs)
+    (λ c κs. let s = c .before .before .before .before .before .before .before .before .before .before .before .before .before .before .before .before .before .before .before .before .before in depends-within (s .args .t1) (s .pre) (omega arith))
     (λ c.
-    let partners = c .before .before .before in
+    let links = c .before .before .before .before in
+    let partners = links .before .before in
     let own = partners .before .before .before in
     let every = own .before .before .before in
     let syncs = every .before in
     let stores = syncs .before .before .before in
     let loads = stores .before .before .before in
     let s = loads .before .before .before in
-    agrees (s .args .t1) (s .pre) (loads .labelled .ensures) (stores .labelled2 .ensures) (syncs .labelled3 .ensures) (set-below (s .args .t1 .events) (every .below .ensures)) (own .by-label .ensures) (partners .sharing .ensures) (c .before .before .minus .ensures) (c .before .light .ensures) (c .dependents .ensures)))
+    agrees (s .args .t1) (s .pre) (loads .labelled .ensures) (stores .labelled2 .ensures) (syncs .labelled3 .ensures) (set-below (s .args .t1 .events) (every .below .ensures)) (own .by-label .ensures) (partners .sharing .ensures) (links .before .minus .ensures)
+    (depends-by (s .args .t1) (links .link-count .ensures) (c .dependents .ensures))))

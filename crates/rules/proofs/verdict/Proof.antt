@@ -2,7 +2,7 @@
 use borrow.Author.Needs.{needs}
 use mathlib.Core.Path.{sym, _∙_}
 use Rattle.rules.specs.Verdict.{modelOf}
-use Rattle.rules.proofs.Same.{by-order, by-value, by-barrier}
+use Rattle.rules.proofs.Same.{load-address, listed, shared, turned, seen-in, judged-in, order-is, value-is, barrier-is, no-order, by-order, by-value, by-barrier}
 use Rattle.rules.proofs.verdict.Statement.{statement}
 use Rattle.rules.proofs.verdict.Tie as tie
 
@@ -12,14 +12,55 @@ verdict-spec =
     (tie.spec
     (λ c κs. search needs)
     (λ c κs. search needs)
+    (λ c κs.
+    let g = c .before .before .before .before .before .before .before .before .before .before .before .before in
+    let s = g .before in
+    (turned (s .pre) (c .before .before .before .before .before .before .before .before .before .columns .ensures), listed (s .args .t1) (g .gather .result) (s .pre) (g .gather .ensures)))
     (λ c.
-    let s = c .before .before .before .args in
-    c .before .broken-order .ensures ∙ by-order (s .c) (modelOf (s .strong)) (λ x. c .if1 .taken (c .before .broken-order .ensures ∙ x)))
+    let o = c .before in
+    let g = o .before .before .before .before .before .before .before .before .before .before .before .before .before in
+    let s = g .before in
+    let order = o .broken-order .ensures ∙ order-is (s .args .t1) (g .gather .result) (s .pre) (g .gather .ensures) in
+    order ∙ by-order (s .args .t1) (modelOf (s .args .strong)) (λ x. c .if1 .taken (order ∙ x)))
     (λ c κs. search needs)
-    (λ c.
-    let s = c .before .before .before .before .before .args in
-    c .before .broken-value .ensures ∙ by-value (s .c) (modelOf (s .strong)) (sym (c .before .before .before .broken-order .ensures) ∙ c .before .before .if1 .left) (λ x. c .if2 .taken (c .before .broken-value .ensures ∙ x)))
     (λ c κs. search needs)
+    (λ c κs.
+    let g = c .before .before .before .before .before .before .before .before .before .before .before .before .before .before .before .before .before .before .before .before .before .before .before .before .before .before .before in
+    let s = g .before in
+    (s .pre .events-most, load-address (s .args .t1) (g .gather .result) (s .pre) (g .gather .ensures)))
+    (λ c κs. turned (c .before .before .before .before .before .before .before .before .before .before .before .before .before .before .before .before .before .before .before .before .before .before .before .before .before .before .before .before .before .before .before .before .before .before .before .before .before .pre) (c .before .before .before .before .before .before .before .before .before .before .before .before .before .before .before .before .before .before .before .before .before .before .before .before .before .before .before .before .before .before .before .before .before .columns .ensures))
     (λ c.
-    let s = c .before .before .before .before .before .before .args in
-    c .broken-barrier .ensures ∙ by-barrier (s .c) (modelOf (s .strong)) (sym (c .before .before .before .before .broken-order .ensures) ∙ c .before .before .before .if1 .left) (sym (c .before .before .broken-value .ensures) ∙ c .before .if2 .left)))
+    let v = c .before in
+    let f = v .before .before .before .before .before .before .before .before .before in
+    let j = f .before .before .before .before .before in
+    let e = j .before .before .before .before in
+    let o = e .before .before .before .before .before .before in
+    let g = o .before .before .before .before .before .before .before .before .before .before .before .before .before in
+    let s = g .before in
+    let w = modelOf (s .args .strong) in
+    let seen = seen-in (s .args .t1) (g .gather .result) (s .pre) (g .gather .ensures) (e .seen-sets .ensures) in
+    let judged = judged-in (s .args .t1) (g .gather .result) (s .pre) (g .gather .ensures) (s .args .strong) seen (j .judged-sets .ensures) in
+    let order = o .broken-order .ensures ∙ order-is (s .args .t1) (g .gather .result) (s .pre) (g .gather .ensures) in
+    let value = v .broken-value .ensures ∙ value-is (s .args .t1) (g .gather .result) (s .pre) (g .gather .ensures) w judged seen (f .fresh-loads .ensures) in
+    value ∙ by-value (s .args .t1) w (sym order ∙ e .before .before .before .before .before .if1 .left) (λ x. c .if2 .taken (value ∙ x)))
+    (λ c κs.
+    let o = c .before .before .before .before .before .before .before .before .before .before .before .before .before .before .before .before .before .before .before .before .before .before .before .before .before .before .before .before .before .before .before .before in
+    let g = o .before .before .before .before .before .before .before .before .before .before .before .before .before in
+    let s = g .before in
+    let order = o .broken-order .ensures ∙ order-is (s .args .t1) (g .gather .result) (s .pre) (g .gather .ensures) in
+    (turned (s .pre) (o .before .before .before .before .before .before .before .before .before .before .columns .ensures), (shared (s .args .t1) (g .gather .result) (s .pre) (g .gather .ensures), (s .pre .threads-least, no-order (s .args .t1) (sym order ∙ c .before .before .before .before .before .before .before .before .before .before .before .before .before .before .before .before .before .before .before .before .before .before .before .before .before .before .before .before .before .before .before .if1 .left)))))
+    (λ c.
+    let v = c .before .before .before .before .before .before .before .before .before in
+    let f = v .before .before .before .before .before .before .before .before .before in
+    let j = f .before .before .before .before .before in
+    let e = j .before .before .before .before in
+    let o = e .before .before .before .before .before .before in
+    let g = o .before .before .before .before .before .before .before .before .before .before .before .before .before in
+    let s = g .before in
+    let w = modelOf (s .args .strong) in
+    let seen = seen-in (s .args .t1) (g .gather .result) (s .pre) (g .gather .ensures) (e .seen-sets .ensures) in
+    let judged = judged-in (s .args .t1) (g .gather .result) (s .pre) (g .gather .ensures) (s .args .strong) seen (j .judged-sets .ensures) in
+    let order = o .broken-order .ensures ∙ order-is (s .args .t1) (g .gather .result) (s .pre) (g .gather .ensures) in
+    let value = v .broken-value .ensures ∙ value-is (s .args .t1) (g .gather .result) (s .pre) (g .gather .ensures) w judged seen (f .fresh-loads .ensures) in
+    c .broken-barrier .ensures ∙ barrier-is (s .args .t1) (g .gather .result) (s .pre) (g .gather .ensures)
+    ∙ by-barrier (s .args .t1) w (sym order ∙ e .before .before .before .before .before .if1 .left) (sym value ∙ c .before .before .before .before .before .before .before .before .if2 .left)))

@@ -1,0 +1,37 @@
+-- `by_columns::overwritten_order` meets its contract. Assumes nothing.
+use borrow.Author.Needs.{needs}
+use Rattle.bits.specs.Bit.{bit}
+use Rattle.finite.proofs.Tests.{imp-no}
+use Rattle.rows.specs.Sets.{orderIn, storeIn}
+use Rattle.values.specs.Parts.{equalIn, overwritten}
+use Rattle.rows.proofs.SetLaws.{masked}
+use Rattle.rows.proofs.Visits.{Visited, visit-all, visit-in, visit-of, visit-fails, visit-next, visit-ends, lowest-less}
+use Rattle.by_columns.proofs.overwritten_order.Statement.{statement}
+use Rattle.by_columns.proofs.overwritten_order.Tie as tie
+
+abbrev Inv-loop : tie.InvT-loop
+Inv-loop judged seen stores partners values rows columns n k p rest₀ rest = Visited k judged (overwritten k (bit judged) (bit seen) (storeIn stores partners) (equalIn values) (orderIn rows p)) rest
+
+abbrev μ-loop : tie.MeasureT-loop
+μ-loop judged seen stores partners values rows columns n k p rest₀ rest = rest
+
+pub overwritten-order-spec : {M : Type 1} → statement M
+overwritten-order-spec =
+    tie.close
+    (tie.spec
+    Inv-loop
+    μ-loop
+    (λ c κs. search needs)
+    (λ c κs. search needs)
+    (λ c. let s = c .before .before .args in visit-all (c .both .ok) (masked (s .k) (s .judged) (c .both .ensures) (c .before .below .ensures)) (λ i h. imp-no _ _ h))
+    (λ c κs. search needs)
+    (λ c κs.
+    let v = c .before .before .loop .inv in
+    let i = visit-in v (c .before .loop-test .taken) (c .lowest .ensures) in
+    let o = visit-of v (c .before .loop-test .taken) (c .lowest .ensures) in
+    (search needs, (search needs, (i, o))))
+    (λ c. search visit-fails)
+    (λ c κs. search needs)
+    (λ c. search lowest-less)
+    (λ c. search visit-next)
+    (λ c. search visit-ends))
