@@ -1,17 +1,17 @@
-//! Records on which a reader goes from quick ways to exact ones: answers, and whole cases where there
-//! are any, agree.
+//! Records on which a reader goes from a quick way to the exact one: answers agree, and so do whole
+//! cases where there are any.
 
 use super::built::built;
 use super::common::plain;
 use litmus::{judge_raw, read_raw, Case};
-use ordinary::answer::{ENDS, FORM, MISPLACED, OF_READING, RANGE};
-use ordinary::generate::odd::{self, FIELDS, OTHERS, PAIRS};
+use ordinary::generate::{assert_odd_came_up, odd_records};
 use ordinary::judge::{judge, PPCS, PPCW};
-use ordinary::tally::Tally;
+use ordinary::tally::{model_name, Tally};
 use ordinary::{read, Answer};
 
-/// Reads and judges with both, compares all that they give, and hands back the number of reading.
-fn compare(bytes: &[u8]) -> u32 {
+/// Reads and judges with both and compares all that they give. Counts the verdicts, and hands back the
+/// number of reading.
+fn compare(bytes: &[u8], verdicts: &mut Tally) -> u32 {
     let reading = read::read(bytes);
     let expected = match &reading {
         Ok(reading) => Answer::done(reading.length),
@@ -24,51 +24,22 @@ fn compare(bytes: &[u8]) -> u32 {
     };
     assert_eq!(Case::read(bytes), Ok(built(&reading.case)), "{bytes:?}");
     for model in [PPCW, PPCS] {
-        let verdict = judge(bytes, model);
-        assert_eq!(plain(judge_raw(bytes, model)), verdict, "{bytes:?} {model}");
+        let answer = judge(bytes, model);
+        assert_eq!(plain(judge_raw(bytes, model)), answer, "{bytes:?} {model}");
+        verdicts.add(model_name(model), answer.number);
     }
     0
 }
 
 #[test]
-fn every_number() {
-    let mut tally = Tally::default();
-    odd::every_number(&mut |place, bytes| tally.add(place, compare(bytes)));
-    println!("how often each number came up, by the place of what is odd:\n{tally}");
-    for place in PAIRS.into_iter().chain(FIELDS).chain(OTHERS) {
-        tally.assert_each(place, [ENDS, FORM, RANGE], 100);
+fn odd_records_are_read_alike() {
+    let (mut tally, mut verdicts) = (Tally::default(), Tally::default());
+    odd_records(&mut |odd, bytes| tally.add(odd, compare(bytes, &mut verdicts)));
+    println!("how often each number came up, by what is odd:\n{tally}");
+    println!("and each verdict where they can be read:\n{verdicts}");
+    assert_odd_came_up(&tally);
+    // All rules are broken in the tests of judging.
+    for model in [PPCW, PPCS] {
+        verdicts.assert_each(model_name(model), [0, 11, 12, 13, 15, 16], 100);
     }
-    for place in PAIRS {
-        tally.assert_each(place, [0, MISPLACED], 100);
-    }
-    for place in FIELDS {
-        tally.assert_each(place, [0], 20);
-    }
-}
-
-/// A record that is cut ends inside a number or the name, and one that is not can be read.
-#[test]
-fn every_end() {
-    let mut tally = Tally::default();
-    odd::every_end(&mut |bytes| tally.add("cut", compare(bytes)));
-    println!("{tally}");
-    tally.assert_each("cut", [0], 10);
-    tally.assert_each("cut", [ENDS], 5_000);
-}
-
-/// With too great a count, the name's length and what is behind it are a pair, or its beginning.
-#[test]
-fn every_count() {
-    let mut tally = Tally::default();
-    odd::every_count(&mut |bytes| tally.add("counts", compare(bytes)));
-    println!("{tally}");
-    tally.assert_each("counts", [0, ENDS, RANGE, MISPLACED], 1_000);
-}
-
-#[test]
-fn every_small_order() {
-    let mut tally = Tally::default();
-    odd::every_small_order(&mut |bytes| tally.add("small orders", compare(bytes)));
-    println!("{tally}");
-    tally.assert_each("small orders", OF_READING, 100);
 }

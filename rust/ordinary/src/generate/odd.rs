@@ -1,22 +1,54 @@
-//! Records on which a quick reader may go wrong, with a word on where: every number written otherwise,
-//! every end of the bytes, and every count of pairs.
+//! Records on which a quick reader may go wrong: every number of a record written otherwise, every end
+//! of the bytes, and every count of pairs.
 
-use super::program::{interleaving, program, write_in};
-use crate::case::{Case, Event, Order};
+use super::one_order;
+use super::program::program;
+use crate::answer::{ENDS, FORM, MISPLACED, OF_READING, RANGE};
+use crate::case::{Case, Event};
 use crate::limits::{EDITIONS, EVENTS, FIRST, GROUPS, SECOND, THREADS, VALUE};
 use crate::random::Random;
+use crate::tally::Tally;
 use crate::write::{number, numbers, record};
 
 /// The places of a pair in an order.
-pub const PAIRS: [&str; 4] = ["row's front", "inside a row", "row's end", "last row"];
+const PAIRS: [&str; 4] = ["row's front", "inside a row", "row's end", "last row"];
 /// The fields of an event.
-pub const FIELDS: [&str; 4] = ["kind", "thread", "address", "value"];
+const FIELDS: [&str; 4] = ["kind", "thread", "address", "value"];
 /// What else a record has of numbers.
-pub const OTHERS: [&str; 4] = ["head", "dependencies", "write orders", "counts"];
+const OTHERS: [&str; 4] = ["head", "dependencies", "write orders", "counts"];
+/// Records cut, with every count of pairs, and with all small orders.
+const CUT: &str = "cut";
+const LENGTHS: &str = "lengths of orders";
+const SMALL: &str = "small orders";
+
+/// Hands over each of these records with a word on what is odd in it, or where.
+pub fn odd_records(visit: &mut impl FnMut(&'static str, &[u8])) {
+    every_number(visit);
+    every_end(visit);
+    every_count(visit);
+    every_small_order(visit);
+}
+
+/// Fails where reading these records did not give each number that it can, by what is odd.
+pub fn assert_odd_came_up(tally: &Tally) {
+    for place in PAIRS.into_iter().chain(FIELDS).chain(OTHERS) {
+        tally.assert_each(place, [ENDS, FORM, RANGE], 100);
+    }
+    for place in PAIRS {
+        tally.assert_each(place, [0, MISPLACED], 100);
+    }
+    for place in FIELDS {
+        tally.assert_each(place, [0], 20);
+    }
+    tally.assert_each(CUT, [0], 10);
+    tally.assert_each(CUT, [ENDS], 5_000);
+    tally.assert_each(LENGTHS, [0, ENDS, RANGE, MISPLACED], 1_000);
+    tally.assert_each(SMALL, OF_READING, 100);
+}
 
 /// Every number of some records exchanged for others, and for itself and others in odd forms; as a
 /// whole and cut behind it.
-pub fn every_number(visit: &mut impl FnMut(&'static str, &[u8])) {
+fn every_number(visit: &mut impl FnMut(&'static str, &[u8])) {
     for case in cases() {
         let record = record(&case);
         let mut start = 0;
@@ -36,16 +68,16 @@ pub fn every_number(visit: &mut impl FnMut(&'static str, &[u8])) {
 }
 
 /// Some records cut at every byte.
-pub fn every_end(visit: &mut impl FnMut(&[u8])) {
+fn every_end(visit: &mut impl FnMut(&'static str, &[u8])) {
     for case in cases() {
         let record = record(&case);
-        (0..=record.len()).for_each(|size| visit(&record[..size]));
+        (0..=record.len()).for_each(|size| visit(CUT, &record[..size]));
     }
 }
 
 /// For some counts of events, the front of all pairs in every length, and of those that rise; the
 /// count right, one too small, and one too great with no pair behind the others and with one.
-pub fn every_count(visit: &mut impl FnMut(&[u8])) {
+fn every_count(visit: &mut impl FnMut(&'static str, &[u8])) {
     for (i, events) in [0, 1, 2, 3, 24, EVENTS - 1, EVENTS].into_iter().enumerate() {
         let front = syncs(EDITIONS[i % EDITIONS.len()], events);
         let all = (0..events).flat_map(|a| (0..events).map(move |b| (a, b)));
@@ -63,7 +95,8 @@ pub fn every_count(visit: &mut impl FnMut(&[u8])) {
                     (size + 1, &[0, 0, 0]),
                 ] {
                     let count = number(count as u64);
-                    visit(&[&front, &count, &bytes[..2 * size], behind].concat());
+                    let record = [&front, &count, &bytes[..2 * size], behind].concat();
+                    visit(LENGTHS, &record);
                 }
             }
         }
@@ -71,7 +104,7 @@ pub fn every_count(visit: &mut impl FnMut(&[u8])) {
 }
 
 /// Two events, every count, and behind it all bytes up to a length out of a few.
-pub fn every_small_order(visit: &mut impl FnMut(&[u8])) {
+fn every_small_order(visit: &mut impl FnMut(&'static str, &[u8])) {
     const BYTES: [u8; 5] = [0, 1, 2, 128, 129];
     const LENGTH: u32 = 6;
     let front = syncs(FIRST, 2);
@@ -80,7 +113,7 @@ pub fn every_small_order(visit: &mut impl FnMut(&[u8])) {
             for which in 0..BYTES.len().pow(length) {
                 let byte = |i| BYTES[which / BYTES.len().pow(i) % BYTES.len()];
                 let behind: Vec<u8> = (0..length).map(byte).collect();
-                visit(&[&front[..], &[count], &behind].concat());
+                visit(SMALL, &[&front[..], &[count], &behind].concat());
             }
         }
     }
@@ -117,13 +150,10 @@ fn cases() -> Vec<Case> {
     all
 }
 
+/// Accepted, with all threads in one order.
 fn total(random: &mut Random, edition: u32, threads: usize, events: usize) -> Case {
     let mut case = program(random, edition, threads, threads, events, 6);
-    for p in 0..threads {
-        let sequence = interleaving(random, &case);
-        write_in(&mut case, &sequence);
-        case.orders[p] = Order::total(&sequence);
-    }
+    one_order(random, &mut case);
     case.name = b"odd".to_vec();
     case
 }

@@ -90,14 +90,12 @@ impl Inputs {
         case
     }
 
-    /// No thread has the first one's order.
+    /// No two threads have the same order.
     fn with_own_orders(&mut self) -> Case {
         loop {
             let case = generate::own_orders(&mut self.random, FIRST, self.events);
-            let [first, others @ ..] = &case.orders[..] else {
-                unreachable!("there are threads")
-            };
-            if !others.contains(first) {
+            let mut orders = case.orders.iter().enumerate();
+            if orders.all(|(p, order)| !case.orders[..p].contains(order)) {
                 return case;
             }
         }

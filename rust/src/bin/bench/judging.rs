@@ -10,6 +10,7 @@
 
 #[cfg(before)]
 use super::before;
+use super::common::plain;
 use super::inputs::{Inputs, Kind};
 use litmus::{judge_raw, read_raw};
 use ordinary::judge::PPCS;
@@ -56,15 +57,6 @@ const IMPLEMENTATIONS: &[Implementation] = &[
         read: |record| before::read_raw(record).number,
     },
 ];
-
-fn plain(answer: litmus::Answer) -> Answer {
-    Answer {
-        number: answer.number,
-        place: answer.place as usize,
-        length: answer.length as usize,
-        finals: answer.finals,
-    }
-}
 
 /// What so many records cost each implementation.
 struct Costs {
