@@ -6,7 +6,7 @@
 //! some rounds: the ordinary implementation then takes 7 microseconds for 64 events, and 12 for
 //! records that were not seen before. A batch of 4 MB is more than that. It is also more than a
 //! core's own caches hold, but the bytes are taken one after the other and so are fetched in time:
-//! with 64 MB in a batch it takes 12.5.
+//! with 64 MB in a batch it takes 12 to 13.
 
 #[cfg(before)]
 use super::before;
