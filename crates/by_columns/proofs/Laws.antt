@@ -9,12 +9,12 @@ use lib.Dec.{eqb, ltb, T}
 use lib.ListN.{getD}
 use borrow.Author.Tests.{lt-ltb, ltb-true}
 use Rattle.finite.specs.Tests.{all, some, _⇒_}
-use Rattle.finite.proofs.Tests.{iff, and-l, and-r, and-i, and-true, all-same, some-same, some-make, same-test, all-iff, and-iff, imp-iff}
+use Rattle.finite.proofs.Tests.{iff, and-l, and-r, and-i, or-l, or-r, or-e, and-true, and-false, all-same, some-same, some-make, same-test, all-iff, and-iff, imp-iff}
 use Rattle.bits.specs.Bit.{bit}
 use Rattle.bits.proofs.Bits.{bit-zero, bit-and, bit-or}
 use Rattle.rows.specs.Sets.{Set, Sets, orderIn, rowIn, setIn, storeIn, lightIn}
-use Rattle.rows.specs.May.{Relation, mustRead, may18}
-use Rattle.rows.proofs.SetLaws.{set-as, set-same, set-below, share, as-set, imp-yes, some-out}
+use Rattle.rows.specs.May.{Relation, pairs, mustRead, may18}
+use Rattle.rows.proofs.SetLaws.{either, set-as, set-same, set-below, share, as-set, imp-yes, some-out}
 use Rattle.values.specs.Parts.{threadIn, explained, carried}
 use Rattle.values.proofs.Laws.{store-by-store}
 use Rattle.by_columns.specs.Parts.{Turned, Joined, Shared, appliesIn, replaced, carriedTo, readIn, behindIn, carriedBehind}
@@ -205,17 +205,35 @@ some-swap k those read d g =
     (and-i (those s) (some k λ l. read l s && d l g) (and-r (read l s) (those s) u)
     (some-make k (λ l. read l s && d l g) l ll (and-i (read l s) (d l g) (and-l (read l s) (those s) u) (and-r (some k λ s. read l s && those s) (d l g) t)))))))
 
--- 18, from what stores have behind them
-pub by-behind : (n k : ℕ) (of : ℕ → ℕ → Bool) (barrier : ℕ → Bool) (applicable : ℕ → ℕ → ℕ → Bool) (isStore : ℕ → Bool) (read : ℕ → ℕ → Bool) (thread : ℕ → ℕ) (asked : Relation) {behind : List ℕ}
-    → Sets k behind (behindIn k read thread asked)
-    → all n (λ p. all k (carriedBehind k n (of p) barrier applicable isStore (setIn behind) p asked)) ≡ may18 n k of barrier applicable isStore read thread asked asked
+imp-same : (x : Bool) {y z : Bool} → (x ≡ true → y ≡ z) → (x ⇒ y) ≡ (x ⇒ z)
+imp-same true h = h refl
+imp-same false h = refl
+
+and-same : (x : Bool) {y z : Bool} → (x ≡ true → y ≡ z) → (x && y) ≡ (x && z)
+and-same true h = h refl
+and-same false h = refl
+
+-- 18, from what the stores have behind them that come after a barrier of their thread
+pub by-behind : (n k : ℕ) (of : ℕ → ℕ → Bool) (barriers stores : ℕ) (applicable : ℕ → ℕ → ℕ → Bool) (read : ℕ → ℕ → Bool) (thread : ℕ → ℕ) (asked : Relation) {behind : List ℕ} {after set : ℕ}
+    → Set after (λ s. some n (λ p. of p s && some k (λ f. bit barriers f && of p f && asked p f s))) → set ≡ bitAnd stores after
+    → Sets k behind (λ s g. bit set s && behindIn k read thread asked s g)
+    → all n (λ p. all k (carriedBehind k n (of p) (bit barriers) applicable (bit stores) (setIn behind) p asked)) ≡ may18 n k of (bit barriers) applicable (bit stores) read thread asked asked
 unfolding may18
-by-behind n k of barrier applicable isStore read thread asked {behind} h =
-    all-same n _ _ (λ p lp. all-same k _ _ (λ f lf. ap (λ t. (barrier f && of p f) ⇒ t)
-    (all-same k _ _ (λ e le. ap (λ t. asked p e f ⇒ t) (all-same n _ _ (λ q lq. all-same k _ _ (λ g lg. ap (λ t. (t && applicable f e g) ⇒ asked q e g)
-    (some-same k _ _ (λ s ls. ap (λ t. (isStore s && of p s && asked p f s) && t) (h .has s ls g))
-    ∙ some-swap k (λ s. isStore s && of p s && asked p f s) read (λ l g. asked (thread l) l g) g)))))
-    ∙ store-by-store k n (λ e. asked p e f) (λ s. isStore s && of p s && asked p f s) read (λ l g. asked (thread l) l g) (applicable f) asked)))
+by-behind n k of barriers stores applicable read thread asked {behind} {after} {set} fenced e h =
+    all-same n _ _ (λ p lp. all-same k _ _ (λ f lf. imp-same (bit barriers f && of p f) (λ b.
+    all-same k _ _ (λ e le. ap (λ t. asked p e f ⇒ t) (all-same n _ _ (λ q lq. all-same k _ _ (λ g lg. ap (λ t. (t && applicable f e g) ⇒ asked q e g)
+    (some-same k _ _ (λ s ls. and-same (bit stores s && of p s && asked p f s) (λ t. h .has s ls g ∙ ap (λ x. x && behindIn k read thread asked s g) (inside p lp f lf s b t)))
+    ∙ some-swap k (λ s. bit stores s && of p s && asked p f s) read (λ l g. asked (thread l) l g) g)))))
+    ∙ store-by-store k n (λ e. asked p e f) (λ s. bit stores s && of p s && asked p f s) read (λ l g. asked (thread l) l g) (applicable f) asked)))
+  where
+    inside : (p : ℕ) → p < n → (f : ℕ) → f < k → (s : ℕ) → (bit barriers f && of p f) ≡ true → (bit stores s && of p s && asked p f s) ≡ true → bit set s ≡ true
+    inside p lp f lf s b t =
+        let so = and-l (bit stores s && of p s) (asked p f s) t in
+        ap (λ (z : ℕ). bit z s) e ∙ bit-and stores after s
+        ∙ and-i (bit stores s) (bit after s) (and-l (bit stores s) (of p s) so)
+        (fenced .has s ∙ some-make n _ p lp
+        (and-i (of p s) (some k (λ f. bit barriers f && of p f && asked p f s)) (and-r (bit stores s) (of p s) so)
+        (some-make k (λ f. bit barriers f && of p f && asked p f s) f lf (and-i (bit barriers f && of p f) (asked p f s) b (and-r (bit stores s && of p s) (asked p f s) t)))))
 
 pub rival : (b : Bool) {x y : Bool} → b ≡ true → x ≡ y → x ≡ (b && y)
 rival b {x} {y} h e = e ∙ ap (λ t. t && y) (sym h)
@@ -245,3 +263,32 @@ joined-columns {n} t s = record {
   events = t .events;
   everywhere = λ g lg e le. s .has g lg e ∙ all-same n _ _ (λ q lq. t .turned .turned q lq e le g lg);
 }
+
+-- ---- the events of pairs
+
+some-either : (k : ℕ) (f g : ℕ → Bool) → (some k f || some k g) ≡ some k (λ x. g x || f x)
+some-either k f g =
+    iff
+    (λ h. or-e (some k f) (some k g)
+    (λ t. some-out k f t (λ x l u. some-make k (λ x. g x || f x) x l (or-r (g x) (f x) u)))
+    (λ t. some-out k g t (λ x l u. some-make k (λ x. g x || f x) x l (or-l (g x) (f x) u))) h)
+    (λ h. some-out k (λ x. g x || f x) h (λ x l u. or-e (g x) (f x)
+    (λ t. or-r (some k f) (some k g) (some-make k g x l t))
+    (λ t. or-l (some k f) (some k g) (some-make k f x l t)) u))
+
+-- by what rows and columns hold
+pub paired-set : {n k : ℕ} {rows columns : List ℕ} (p : ℕ) {after before mask r : ℕ} → Turned n k rows columns → p < n → Set after (λ e. some k (λ a. orderIn rows p a e))
+    → Set before (λ e. some k (λ a. orderIn columns p a e)) → mask ≡ 2 ^ k - 1 → r ≡ bitAnd (bitOr after before) mask → Set r (λ e. ltb e k && pairs k (orderIn rows) p e)
+unfolding pairs
+paired-set {n} {k} {rows} {columns} p t lp s u m h = set-same (set-as h (share (either s u) (set-below k m))) (λ e. by e (ltb e k) refl)
+  where
+    by : (e : ℕ) (l : Bool) → ltb e k ≡ l → ((some k (λ a. orderIn rows p a e) || some k (λ a. orderIn columns p a e)) && l) ≡ (l && (some k λ x. orderIn rows p e x || orderIn rows p x e))
+    by e true l =
+        and-true (some k (λ a. orderIn rows p a e) || some k (λ a. orderIn columns p a e))
+        ∙ ap (λ z. some k (λ a. orderIn rows p a e) || z) (some-same k _ _ (λ a la. t .turned .turned p lp e (ltb-true e k l) a la))
+        ∙ some-either k (λ a. orderIn rows p a e) (λ a. orderIn rows p e a)
+    by e false l = and-false (some k (λ a. orderIn rows p a e) || some k (λ a. orderIn columns p a e))
+
+-- under one that fails
+pub none : (b : Bool) (f : ℕ → Bool) → b ≡ false → Set 0 (λ g. b && f g)
+none b f h = record { has = λ g. bit-zero g ∙ ap (λ t. t && f g) (sym h) }

@@ -9,7 +9,7 @@ ghost use Rattle.finite.specs.Tests.{all, some, _⇒_};
 ghost use Rattle.bits.specs.Bit.{bit};
 ghost use Rattle.model.specs.Limits.{mostThreads, mostEvents};
 ghost use Rattle.rows.specs.Sets.{Set, Sets, orderIn, setIn, storeIn};
-ghost use Rattle.rows.specs.May.{may12, may15, may16, may17, may18};
+ghost use Rattle.rows.specs.May.{pairs, may12, may15, may16, may17, may18};
 ghost use Rattle.orders.specs.Parts.{connected};
 ghost use Rattle.values.specs.Parts.{equalIn, threadIn, supplied, overwritten, carried as carriedOf, cumulative};
 ghost use Rattle.by_columns.specs.Parts.{Turned, Joined, Shared, appliesIn, replaced, carriedTo, readIn, behindIn, carriedBehind};
@@ -48,6 +48,36 @@ fn earlier_of<'a>(
     ensures { λ r. ⌜ Set r (λ e. ltb e k && (bit set e && orderIn (now (rows .entry)) p e b)) ⌝ }
 {
     bits::both(set, earlier(rows, columns, n, k, p, b))
+}
+
+// What some event of k has in its row of thread p.
+fn united(rows: &[u64; Case::MOST_THREADS * Case::MOST_EVENTS], k: usize, p: usize) -> u64
+    requires { ⌜ k ≤ mostEvents ⌝ }
+    requires { ⌜ p < mostThreads ⌝ }
+    ensures { λ r. ⌜ Set r (λ e. some k (λ a. orderIn (now (rows .entry)) p a e)) ⌝ }
+{
+    let mut found: u64 = 0;
+    for a in 0..k {
+        found = found | rows::row(rows, p, a);
+    }
+    found
+}
+
+// The events that stand in some pair of p's order: those that come after one, and those that come before one.
+pub fn paired<'a>(
+    rows: &'a [u64; Case::MOST_THREADS * Case::MOST_EVENTS],
+    columns: &'a [u64; Case::MOST_THREADS * Case::MOST_EVENTS],
+    n: usize,
+    k: usize,
+    p: usize,
+) -> u64
+    requires { ⌜ Turned n k (now rows) (now columns) ⌝ }
+    requires { ⌜ p < n ⌝ }
+    ensures { λ r. ⌜ Set r (λ e. ltb e k && pairs k (orderIn (now (rows .entry))) p e) ⌝ }
+{
+    let after = united(rows, k, p);
+    let before = united(columns, k, p);
+    bits::both(after | before, bits::below(k))
 }
 
 // Event a of thread p and every other of its events are ordered.
@@ -632,8 +662,34 @@ fn behind_store<'a>(
     found
 }
 
-// By event, what comes after a load that must read from it, in the load's thread's order. The entries from k on are left open: there is no such event.
+// The same of event s, if it is in the set.
+fn behind_event<'a>(
+    set: u64,
+    loads: u64,
+    stores: u64,
+    partners: &'a [u64; Case::MOST_EVENTS],
+    threads: &'a [u8; Case::MOST_EVENTS],
+    rows: &'a [u64; Case::MOST_THREADS * Case::MOST_EVENTS],
+    columns: &'a [u64; Case::MOST_THREADS * Case::MOST_EVENTS],
+    n: usize,
+    k: usize,
+    s: usize,
+) -> u64
+    requires { ⌜ Turned n k (now rows) (now columns) ⌝ }
+    requires { ⌜ Shared n k (now partners) (now threads) ⌝ }
+    requires { ⌜ s < k ⌝ }
+    ensures { λ r. ⌜ Set r (λ g. bit set s && behindIn k (readIn k loads stores (now (partners .entry)) (now (threads .entry)) (now (rows .entry))) (threadIn (now (threads .entry))) (orderIn (now (rows .entry))) s g) ⌝ }
+{
+    if bits::has(set, s) {
+        behind_store(loads, stores, partners, threads, rows, columns, n, k, s)
+    } else {
+        0
+    }
+}
+
+// By event of the set, what comes after a load that must read from it, in the load's thread's order. The entries from k on are left open: there is no such event.
 fn behind<'a>(
+    set: u64,
     loads: u64,
     stores: u64,
     partners: &'a [u64; Case::MOST_EVENTS],
@@ -645,13 +701,58 @@ fn behind<'a>(
 ) -> [u64; Case::MOST_EVENTS]
     requires { ⌜ Turned n k (now rows) (now columns) ⌝ }
     requires { ⌜ Shared n k (now partners) (now threads) ⌝ }
-    ensures { λ r. ⌜ Sets k r (behindIn k (readIn k loads stores (now (partners .entry)) (now (threads .entry)) (now (rows .entry))) (threadIn (now (threads .entry))) (orderIn (now (rows .entry)))) ⌝ }
+    ensures { λ r. ⌜ Sets k r (λ s g. bit set s && behindIn k (readIn k loads stores (now (partners .entry)) (now (threads .entry)) (now (rows .entry))) (threadIn (now (threads .entry))) (orderIn (now (rows .entry))) s g) ⌝ }
 {
     let mut out = [0u64; Case::MOST_EVENTS];
     for s in 0..k {
-        out[s] = behind_store(loads, stores, partners, threads, rows, columns, n, k, s);
+        out[s] = behind_event(
+            set,
+            loads,
+            stores,
+            partners,
+            threads,
+            rows,
+            columns,
+            n,
+            k,
+            s,
+        );
     }
     out
+}
+
+// The events of thread p that come after one of its barriers in its order.
+fn fenced_order(
+    own: u64,
+    barriers: u64,
+    rows: &[u64; Case::MOST_THREADS * Case::MOST_EVENTS],
+    k: usize,
+    p: usize,
+) -> u64
+    requires { ⌜ k ≤ mostEvents ⌝ }
+    requires { ⌜ p < mostThreads ⌝ }
+    ensures { λ r. ⌜ Set r (λ s. bit own s && some k (λ f. bit barriers f && bit own f && orderIn (now (rows .entry)) p f s)) ⌝ }
+{
+    bits::both(own, rows::after(rows, k, p, bits::both(barriers, own)))
+}
+
+// The events that come after a barrier of their thread, in its order.
+fn fenced<'a>(
+    own: &'a [u64; Case::MOST_THREADS],
+    barriers: u64,
+    rows: &'a [u64; Case::MOST_THREADS * Case::MOST_EVENTS],
+    n: usize,
+    k: usize,
+) -> u64
+    requires { ⌜ n ≤ mostThreads ⌝ }
+    requires { ⌜ k ≤ mostEvents ⌝ }
+    ensures { λ r. ⌜ Set r (λ s. some n (λ p. setIn (now (own .entry)) p s && some k (λ f. bit barriers f && setIn (now (own .entry)) p f && orderIn (now (rows .entry)) p f s))) ⌝ }
+{
+    let mut found: u64 = 0;
+    for p in 0..n {
+        found = found | fenced_order(own[p], barriers, rows, k, p);
+    }
+    found
 }
 
 // What the events of the set have behind them.
@@ -814,7 +915,8 @@ pub fn rule18<'a>(
     requires { ⌜ Shared n k (now partners) (now threads) ⌝ }
     ensures { λ r. ⌜ r ≡ may18 n k (setIn (now (own .entry))) (bit barriers) (appliesIn barriers syncs stores loads) (bit stores) (readIn k loads stores (now (partners .entry)) (now (threads .entry)) (now (rows .entry))) (threadIn (now (threads .entry))) (orderIn (now (rows .entry))) (orderIn (now (rows .entry))) ⌝ }
 {
-    let behind = behind(loads, stores, partners, threads, rows, columns, n, k);
+    let set = bits::both(stores, fenced(own, barriers, rows, n, k));
+    let behind = behind(set, loads, stores, partners, threads, rows, columns, n, k);
     carried_on(
         own,
         barriers,

@@ -147,19 +147,12 @@ fn turn_each(out: &mut [u64], n: usize, count: usize)
     }
 }
 
-// The columns of n threads' orders of k events.
-pub fn columns<'a>(
-    rows: &'a [u64; Case::MOST_THREADS * Case::MOST_EVENTS],
-    n: usize,
-    k: usize,
-) -> [u64; Case::MOST_THREADS * Case::MOST_EVENTS]
+// Turns the rows of n threads' orders of k events into their columns.
+pub fn to_columns(out: &mut [u64], n: usize, k: usize)
     requires { ⌜ n ≤ mostThreads ⌝ }
     requires { ⌜ k ≤ mostEvents ⌝ }
-    ensures { λ r. ⌜ Columns n k (now (rows .entry)) r ⌝ }
+    requires { ⌜ length (now out) ≡ mostThreads * mostEvents ⌝ }
+    ensures { λ r. ⌜ Columns n k (now (out .entry)) (now (out .exit)) ⌝ }
 {
-    // as a slice it is known to have all its rows
-    let _all: &[u64] = rows;
-    let mut out = *rows;
-    turn_each(&mut out, n, digits_below(k));
-    out
+    turn_each(out, n, digits_below(k));
 }

@@ -29,7 +29,7 @@ use Rattle.values.specs.Parts.{equalIn, threadIn}
 use Rattle.columns.specs.Columns.{Columns}
 use Rattle.by_columns.specs.Parts.{Turned, Shared, appliesIn, readIn}
 use Rattle.rules.specs.declared.EventSets.{EventSets}
-use Rattle.rules.specs.Verdict.{Agrees, Listed, Seen, Judged, modelOf, sharedIn, seenIn, judgedIn, freshIn, orderVerdict, valueVerdict, barrierVerdict, orderBroken, valueBroken, barrierBroken}
+use Rattle.rules.specs.Verdict.{Agrees, InRange, Sorted, Listed, Seen, Judged, modelOf, sharedIn, seenIn, judgedIn, freshIn, orderVerdict, valueVerdict, barrierVerdict, orderBroken, valueBroken, barrierBroken}
 use Rattle.rules.proofs.Means.{thread-in, address-in, value-in, initial-in, before-in, load-in, store-in, sync-in, barrier-in, of-in, depends-in, load-full, store-full, full-kind, twice-not, not-not}
 
 -- under a test
@@ -398,52 +398,52 @@ shares k set addresses {those} within t r = record { has = λ a la b. r .has a l
     by a la b true h = t .has (getD addresses a 0) (within a la h) b
     by a la b false h = refl
 
--- by event, what depends on it
-module _ (c : Held) where
-  pub depends-within : Sound c → {i : ℕ} → i ≤ linkCount (c .edition) (c .dependencies)
-      → (i ≤ mostDependencies) × (((j : ℕ) → j < i → getD (c .from) j 0 < mostEvents) × ((j : ℕ) → j < i → getD (c .to) j 0 < mostEvents))
-  depends-within sound h = (
-    le-trans h (sound .links-most),
-    (
-      λ j l. lt-of-lt-of-le (sound .from j (lt-of-lt-of-le l h)) (sound .events-most),
-      λ j l. lt-of-lt-of-le (sound .to j (lt-of-lt-of-le l h)) (sound .events-most),
-    ),
-  )
+-- what a load or store has for an address
+pub accessed : {k : ℕ} (kinds : List ℕ) {l s : ℕ} {P : ℕ → Type 0} → Set l (λ e. ltb e k && eqb (getD kinds e 0) load) → Set s (λ e. ltb e k && eqb (getD kinds e 0) store)
+    → ((e : ℕ) → e < k → (eqb (getD kinds e 0) load || eqb (getD kinds e 0) store) ≡ true → P e) → (e : ℕ) → e < k → bit (bitOr l s) e ≡ true → P e
+accessed {k} kinds {l} {s} loads stores f e le h =
+    f e le (ap₂ (λ x y. x || y) (ap (λ t. t && eqb (getD kinds e 0) load) (sym (lt-ltb e k le)) ∙ sym (loads .has e)) (ap (λ t. t && eqb (getD kinds e 0) store) (sym (lt-ltb e k le)) ∙ sym (stores .has e)) ∙ sym (bit-or l s e) ∙ h)
 
-  pub depends-by : {i : ℕ} {r : List ℕ} → i ≡ linkCount (c .edition) (c .dependencies) → Sets mostEvents r (dependsIn (c .from) (c .to) i)
-      → Sets mostEvents r (depends (caseOf c))
-  depends-by h d = record { has = λ a la b. d .has a la b ∙ ap (λ (i : ℕ). dependsIn (c .from) (c .to) i a b) h ∙ sym (depends-in c a b) }
+-- below k, said once
+pub once : (l x : Bool) {t : Bool} → t ≡ l → (t && (l && x)) ≡ (l && x)
+once true x h = ap (λ b. b && x) h
+once false x h = ap (λ b. b && false) h
 
-module _ (c : Held) (sound : Sound c) {l s : ℕ}
-    (loads : Set l (λ e. ltb e (c .events) && eqb (getD (c .kind) e 0) load))
-    (stores : Set s (λ e. ltb e (c .events) && eqb (getD (c .kind) e 0) store)) where
+module _ (c : Held) (sound : Sound c) where
+  pub in-range : {links : ℕ} → links ≡ linkCount (c .edition) (c .dependencies) → InRange (c .events) links (c .kind) (c .address) (c .from) (c .to)
+  in-range {links} h = record {
+    events = sound .events-most;
+    address = λ e le t. lt-of-lt-of-le (sound .address e le (not-not _ (bare (getD (c .kind) e 0)) (full-kind (c .edition) (getD (c .kind) e 0) (sound .kind e le)) t)) (sound .addresses-most);
+    most = subst (λ (i : ℕ). i ≤ mostDependencies) (sym h) (sound .links-most);
+    from = λ j l. lt-of-lt-of-le (sound .from j (subst (λ (i : ℕ). j < i) h l)) (sound .events-most);
+    to = λ j l. lt-of-lt-of-le (sound .to j (subst (λ (i : ℕ). j < i) h l)) (sound .events-most);
+  }
+
+module _ (c : Held) (sound : Sound c) {links : ℕ} {g : EventSets} (h : links ≡ linkCount (c .edition) (c .dependencies)) (sorted : Sorted (c .events) links (c .kind) (c .thread) (c .address) (c .from) (c .to) g) where
   -- an event below k
   here : (e : ℕ) → e < c .events → (x : Bool) → (ltb e (c .events) && x) ≡ x
   here e le x = ap (λ t. t && x) (lt-ltb e (c .events) le)
 
-  access-in : (e : ℕ) → e < c .events → bit (bitOr l s) e ≡ not (bare (getD (c .kind) e 0))
+  access-in : (e : ℕ) → e < c .events → bit (bitOr (g .loads) (g .stores)) e ≡ not (bare (getD (c .kind) e 0))
   access-in e le =
-      bit-or l s e
-      ∙ ap₂ (λ x y. x || y) (loads .has e ∙ here e le (eqb (getD (c .kind) e 0) load)) (stores .has e ∙ here e le (eqb (getD (c .kind) e 0) store))
+      bit-or (g .loads) (g .stores) e
+      ∙ ap₂ (λ x y. x || y) (sorted .loads .has e ∙ here e le (eqb (getD (c .kind) e 0) load)) (sorted .stores .has e ∙ here e le (eqb (getD (c .kind) e 0) store))
       ∙ full-kind (c .edition) (getD (c .kind) e 0) (sound .kind e le)
 
-  access-full : (e : ℕ) → e < c .events → bit (bitOr l s) e ≡ true → bare (getD (c .kind) e 0) ≡ false
-  access-full e le h = not-not (bit (bitOr l s) e) (bare (getD (c .kind) e 0)) (access-in e le) h
-
-  pub access-address : (e : ℕ) → e < c .events → bit (bitOr l s) e ≡ true → getD (c .address) e 0 < mostAddresses
-  access-address e le h = lt-of-lt-of-le (sound .address e le (access-full e le h)) (sound .addresses-most)
+  access-full : (e : ℕ) → e < c .events → bit (bitOr (g .loads) (g .stores)) e ≡ true → bare (getD (c .kind) e 0) ≡ false
+  access-full e le h = not-not (bit (bitOr (g .loads) (g .stores)) e) (bare (getD (c .kind) e 0)) (access-in e le) h
 
   -- events of the set that use one address
-  one-address : (a : ℕ) → a < c .events → (b : ℕ) → b < c .events → sharedIn (c .events) (bitOr l s) (c .address) a b ≡ oneAddress (caseOf c) a b
+  one-address : (a : ℕ) → a < c .events → (b : ℕ) → b < c .events → sharedIn (c .events) (bitOr (g .loads) (g .stores)) (c .address) a b ≡ oneAddress (caseOf c) a b
   unfolding oneAddress
   one-address a la b lb =
-      by (bit (bitOr l s) a) (bit (bitOr l s) b) refl refl
+      by (bit (bitOr (g .loads) (g .stores)) a) (bit (bitOr (g .loads) (g .stores)) b) refl refl
       ∙ sym (ap₂ (λ x y. not x && not y && eqb (address (caseOf c) a) (address (caseOf c) b)) (barrier-in c a la) (barrier-in c b lb))
     where
       same : Bool
       same = eqb (address (caseOf c) a) (address (caseOf c) b)
 
-      by : (x y : Bool) → bit (bitOr l s) a ≡ x → bit (bitOr l s) b ≡ y
+      by : (x y : Bool) → bit (bitOr (g .loads) (g .stores)) a ≡ x → bit (bitOr (g .loads) (g .stores)) b ≡ y
           → (x && (y && (ltb b (c .events) && eqb (getD (c .address) b 0) (getD (c .address) a 0)))) ≡ (not (bare (getD (c .kind) a 0)) && not (bare (getD (c .kind) b 0)) && same)
       by true true x y =
           here b lb (eqb (getD (c .address) b 0) (getD (c .address) a 0))
@@ -453,34 +453,15 @@ module _ (c : Held) (sound : Sound c) {l s : ℕ}
       by true false x y = ap₂ (λ u v. u && v && same) (sym x ∙ access-in a la) (sym y ∙ access-in b lb)
       by false z x y = ap (λ u. u && not (bare (getD (c .kind) b 0)) && same) (sym x ∙ access-in a la)
 
-  pub agrees : {f every b : ℕ} {mine partners dependents : List ℕ} → Set f (λ e. ltb e (c .events) && eqb (getD (c .kind) e 0) sync)
-      → Set every (λ e. ltb e (c .events))
-      → Sets mostThreads mine (λ x e. bit every e && (ltb e (c .events) && eqb (getD (c .thread) e 0) x))
-      → Sets (c .events) partners (sharedIn (c .events) (bitOr l s) (c .address))
-      → Set b (λ e. bit every e && not (bit (bitOr l s) e))
-      → Sets mostEvents dependents (depends (caseOf c))
-      → Agrees (caseOf c) (record { own = mine; loads = l; stores = s; barriers = b; syncs = f; partners = partners; dependents = dependents })
+  pub agrees : Agrees (caseOf c) g
   unfolding caseOf
-  agrees {b = b} syncs all-below own p barriers d = record {
-    own = λ x lx e le.
-        own .has x (lt-of-lt-of-le lx (sound .threads-most)) e
-        ∙ ap (λ t. t && (ltb e (c .events) && eqb (getD (c .thread) e 0) x)) (all-below .has e ∙ lt-ltb e (c .events) le)
-        ∙ here e le (eqb (getD (c .thread) e 0) x) ∙ sym (of-in c x e le);
-    load = is-load;
-    store = is-store;
-    barrier = is-barrier;
-    sync = λ e le. syncs .has e ∙ here e le (eqb (getD (c .kind) e 0) sync) ∙ sym (sync-in c e le);
-    partner = λ x lx y ly. p .has x lx y ∙ one-address x lx y ly;
-    dependent = λ x lx y ly. d .has x (lt-of-lt-of-le lx (sound .events-most)) y;
+  agrees = record {
+    own = λ x lx e le. sorted .own .has x (lt-of-lt-of-le lx (sound .threads-most)) e ∙ here e le (eqb (getD (c .thread) e 0) x) ∙ sym (of-in c x e le);
+    load = λ e le. sorted .loads .has e ∙ here e le (eqb (getD (c .kind) e 0) load) ∙ sym (load-in c e le);
+    store = λ e le. sorted .stores .has e ∙ here e le (eqb (getD (c .kind) e 0) store) ∙ sym (store-in c e le);
+    barrier = λ e le.
+        sorted .barriers .has e ∙ ap₂ (λ x y. x && not y) (lt-ltb e (c .events) le) (access-in e le) ∙ twice-not (bare (getD (c .kind) e 0)) ∙ sym (barrier-in c e le);
+    sync = λ e le. sorted .syncs .has e ∙ here e le (eqb (getD (c .kind) e 0) sync) ∙ sym (sync-in c e le);
+    partner = λ x lx y ly. sorted .partners .has x lx y ∙ one-address x lx y ly;
+    dependent = λ x lx y ly. sorted .dependents .has x (lt-of-lt-of-le lx (sound .events-most)) y ∙ ap (λ (i : ℕ). dependsIn (c .from) (c .to) i x y) h ∙ sym (depends-in c x y);
   }
-    where
-      is-load : (e : ℕ) → e < c .events → bit l e ≡ isLoad (caseOf c) e
-      is-load e le = loads .has e ∙ here e le (eqb (getD (c .kind) e 0) load) ∙ sym (load-in c e le)
-
-      is-store : (e : ℕ) → e < c .events → bit s e ≡ isStore (caseOf c) e
-      is-store e le = stores .has e ∙ here e le (eqb (getD (c .kind) e 0) store) ∙ sym (store-in c e le)
-
-      is-barrier : (e : ℕ) → e < c .events → bit b e ≡ isBarrier (caseOf c) e
-      is-barrier e le =
-          barriers .has e ∙ ap₂ (λ x y. x && not y) (all-below .has e ∙ lt-ltb e (c .events) le) (access-in e le)
-          ∙ twice-not (bare (getD (c .kind) e 0)) ∙ sym (barrier-in c e le)

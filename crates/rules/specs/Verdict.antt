@@ -1,17 +1,18 @@
 -- A struct's sets against the case that it means, and the parts of its verdict.
 -- Assumes nothing.
-use Prim.Native.Nat.{ℕ, _+_, _*_, _<_}
+use Prim.Native.Nat.{ℕ, _+_, _*_, _≤_, _<_}
 use mathlib.Core.Path.{_≡_}
 use mathlib.Core.Bool.{Bool, true, false, not, _&&_, _||_}
 use mathlib.Core.List.{List}
 use lib.Dec.{eqb, ltb}
+use lib.Bits.{bitOr}
 use lib.ListN.{getD}
 use Rattle.bits.specs.Bit.{bit}
-use Rattle.model.specs.Case.{Case}
+use Rattle.model.specs.Case.{Case, load, store, sync}
 use Rattle.model.specs.Rules.{Model, PPCw, PPCs, of, isLoad, isStore, isSync, isBarrier, oneAddress, depends, seen, judged, orElse, rule11, rule12, rule13, rule14, rule15, rule16, rule17, rule18}
 use Rattle.finite.specs.Tests.{count}
-use Rattle.model.specs.Limits.{mostAddresses, mostEvents}
-use Rattle.rows.specs.Sets.{orderIn, setIn, storeIn}
+use Rattle.model.specs.Limits.{mostThreads, mostAddresses, mostEvents, mostDependencies}
+use Rattle.rows.specs.Sets.{Set, Sets, orderIn, setIn, storeIn, dependsIn}
 use Rattle.rows.specs.May.{Relation, pairs, may11, may12, may13, may14, may15, may16, may17, may18}
 use Rattle.orders.specs.Parts.{writtenIn}
 use Rattle.values.specs.Parts.{equalIn, threadIn}
@@ -33,6 +34,28 @@ pub record Agrees (c : Case) (g : EventSets) : Type 0 where
   pub partner : (a : ℕ) → a < c .k → (b : ℕ) → b < c .k → setIn (g .partners) a b ≡ oneAddress c a b
   pub dependent : (a : ℕ) → a < c .k → (b : ℕ) → b < c .k → setIn (g .dependents) a b ≡ depends c a b
 
+-- by event of the set, those of the set among k events that use its address
+abbrev pub sharedIn : (k set : ℕ) (addresses : List ℕ) → ℕ → ℕ → Bool
+sharedIn k set addresses a b = bit set a && (bit set b && (ltb b k && eqb (getD addresses b 0) (getD addresses a 0)))
+
+-- so many events and dependencies are within the limits, each load and store has an address, and each dependency goes from an event to an event
+pub record InRange (k links : ℕ) (kinds addresses froms tos : List ℕ) : Type 0 where
+  pub events : k ≤ mostEvents
+  pub address : (e : ℕ) → e < k → (eqb (getD kinds e 0) load || eqb (getD kinds e 0) store) ≡ true → getD addresses e 0 < mostAddresses
+  pub most : links ≤ mostDependencies
+  pub from : (i : ℕ) → i < links → getD froms i 0 < mostEvents
+  pub to : (i : ℕ) → i < links → getD tos i 0 < mostEvents
+
+-- the sets are those of k events and of so many dependencies, by what a struct's arrays hold
+pub record Sorted (k links : ℕ) (kinds threads addresses froms tos : List ℕ) (g : EventSets) : Type 0 where
+  pub loads : Set (g .loads) (λ e. ltb e k && eqb (getD kinds e 0) load)
+  pub stores : Set (g .stores) (λ e. ltb e k && eqb (getD kinds e 0) store)
+  pub syncs : Set (g .syncs) (λ e. ltb e k && eqb (getD kinds e 0) sync)
+  pub barriers : Set (g .barriers) (λ e. ltb e k && not (bit (bitOr (g .loads) (g .stores)) e))
+  pub own : Sets mostThreads (g .own) (λ p e. ltb e k && eqb (getD threads e 0) p)
+  pub partners : Sets k (g .partners) (sharedIn k (bitOr (g .loads) (g .stores)) addresses)
+  pub dependents : Sets mostEvents (g .dependents) (dependsIn froms tos links)
+
 -- of a store among k, the stores to its address are listed in the write order: what their listing holds are events
 pub record Listed (k stores : ℕ) (partners addresses writes : List ℕ) : Type 0 where
   pub address : (a : ℕ) → a < k → bit stores a ≡ true → getD addresses a 0 < mostAddresses
@@ -45,10 +68,6 @@ pub record Seen (c : Case) (sets : List ℕ) : Type 0 where
 -- by thread, the sets are the loads that rules 15 and 16 speak of
 pub record Judged (c : Case) (w : Model) (sets : List ℕ) : Type 0 where
   pub is : (p : ℕ) → p < c .n → (l : ℕ) → l < c .k → setIn sets p l ≡ judged c w p l
-
--- by event of the set, those of the set among k events that use its address
-abbrev pub sharedIn : (k set : ℕ) (addresses : List ℕ) → ℕ → ℕ → Bool
-sharedIn k set addresses a b = bit set a && (bit set b && (ltb b k && eqb (getD addresses b 0) (getD addresses a 0)))
 
 -- by thread, of k events: what stands in some pair of its order, and its own
 abbrev pub seenIn : (k : ℕ) (known own : List ℕ) → ℕ → ℕ → Bool

@@ -14,7 +14,7 @@ ghost use Rattle.rows.specs.Sets.{Set, Sets, orderIn};
 ghost use Rattle.rows.specs.May.{may11};
 ghost use Rattle.by_columns.specs.Parts.{Turned, Shared};
 ghost use Rattle.rules.specs.Finals.{storedIn, valueIn, lastIn, finalIn};
-ghost use Rattle.rules.specs.Verdict.{Agrees, Listed, modelOf, sharedIn, seenIn, chosenIn, judgedIn, freshIn, orderBroken, valueBroken, barrierBroken};
+ghost use Rattle.rules.specs.Verdict.{InRange, Sorted, Listed, modelOf, sharedIn, seenIn, chosenIn, judgedIn, freshIn, orderBroken, valueBroken, barrierBroken};
 use case::Case;
 
 // The sets of a case's events: those of each thread; loads, stores, barriers and, of these, syncs; and by event those that use
@@ -39,23 +39,28 @@ fn sharing(addresses: &[u8; Case::MOST_EVENTS], k: usize, set: u64) -> [u64; Cas
     rows::by_event(&those, addresses, k, set)
 }
 
-// The sets of a case. `Agrees` speaks of its threads and events; what the sets hold beyond these numbers is left open, since every
-// rule asks of the case's own threads and events alone.
-fn gather(c: Case) -> EventSets
-    requires { ⌜ Sound c ⌝ }
-    ensures { λ r. ⌜ Agrees (caseOf c) r ⌝ }
+// The sets of k events, by what a case's arrays hold.
+fn gather<'a>(
+    kinds: &'a [u8; Case::MOST_EVENTS],
+    threads: &'a [u8; Case::MOST_EVENTS],
+    addresses: &'a [u8; Case::MOST_EVENTS],
+    froms: &'a [u8; Case::MOST_DEPENDENCIES],
+    tos: &'a [u8; Case::MOST_DEPENDENCIES],
+    links: usize,
+    k: usize,
+) -> EventSets
+    requires { ⌜ InRange k links (now kinds) (now addresses) (now froms) (now tos) ⌝ }
+    ensures { λ r. ⌜ Sorted k links (now (kinds .entry)) (now (threads .entry)) (now (addresses .entry)) (now (froms .entry)) (now (tos .entry)) r ⌝ }
 {
-    let k = c.events;
-    let loads = rows::labelled(&c.kind, k, Case::LOAD);
-    let stores = rows::labelled(&c.kind, k, Case::STORE);
-    let syncs = rows::labelled(&c.kind, k, Case::SYNC);
+    let loads = rows::labelled(kinds, k, Case::LOAD);
+    let stores = rows::labelled(kinds, k, Case::STORE);
+    let syncs = rows::labelled(kinds, k, Case::SYNC);
     let every = bits::below(k);
-    let own = rows::by_label(&c.thread, k, every);
+    let own = rows::by_label(threads, k, every);
     let accesses = loads | stores;
-    let partners = sharing(&c.address, k, accesses);
+    let partners = sharing(addresses, k, accesses);
     let barriers = rows::minus(every, accesses);
-    let links = case::link_count(c.edition, c.dependencies);
-    let dependents = rows::dependents(&c.from, &c.to, links);
+    let dependents = rows::dependents(froms, tos, links);
     EventSets {
         own,
         loads,
@@ -68,19 +73,19 @@ fn gather(c: Case) -> EventSets
 }
 
 // V(p) by thread: the events of its pairs, and its own.
-fn seen_sets(
-    known: &[u64; Case::MOST_THREADS * Case::MOST_EVENTS],
-    own: &[u64; Case::MOST_THREADS],
+fn seen_sets<'a>(
+    rows: &'a [u64; Case::MOST_THREADS * Case::MOST_EVENTS],
+    columns: &'a [u64; Case::MOST_THREADS * Case::MOST_EVENTS],
+    own: &'a [u64; Case::MOST_THREADS],
     n: usize,
     k: usize,
 ) -> [u64; Case::MOST_THREADS]
-    requires { ⌜ n ≤ mostThreads ⌝ }
-    requires { ⌜ k ≤ mostEvents ⌝ }
-    ensures { λ r. ⌜ Sets n r (seenIn k (now (known .entry)) (now (own .entry))) ⌝ }
+    requires { ⌜ Turned n k (now rows) (now columns) ⌝ }
+    ensures { λ r. ⌜ Sets n r (seenIn k (now (rows .entry)) (now (own .entry))) ⌝ }
 {
     let mut out = [0u64; Case::MOST_THREADS];
     for p in 0..n {
-        out[p] = rows::paired(known, k, p) | own[p];
+        out[p] = by_columns::paired(rows, columns, n, k, p) | own[p];
     }
     out
 }
@@ -270,8 +275,10 @@ pub fn verdict(c: Case, strong: bool) -> u8
 {
     let n = c.threads;
     let k = c.events;
-    let g = gather(c);
-    let columns = columns::columns(&c.rows, n, k);
+    let links = case::link_count(c.edition, c.dependencies);
+    let g = gather(&c.kind, &c.thread, &c.address, &c.from, &c.to, links, k);
+    let mut columns = c.rows;
+    columns::to_columns(&mut columns, n, k);
     let x = broken_order(
         &g.own,
         g.barriers,
@@ -288,7 +295,7 @@ pub fn verdict(c: Case, strong: bool) -> u8
     if x != 0 {
         return x;
     }
-    let seen = seen_sets(&c.rows, &g.own, n, k);
+    let seen = seen_sets(&c.rows, &columns, &g.own, n, k);
     let judged = judged_sets(strong, g.loads, &g.own, &seen, n);
     let fresh = fresh_loads(g.loads, &c.value, &c.address, &c.initial, k);
     let y = broken_value(

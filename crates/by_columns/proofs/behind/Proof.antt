@@ -2,6 +2,8 @@
 use Prim.Native.Nat.{_-_}
 use borrow.Author.Needs.{needs}
 use native.Mathlib.Omega.{arith}
+use mathlib.Core.Bool.{_&&_}
+use Rattle.bits.specs.Bit.{bit}
 use Rattle.rows.specs.Sets.{orderIn}
 use Rattle.rows.proofs.Loops.{Filled, unfilled, fills, filled}
 use Rattle.values.specs.Parts.{threadIn}
@@ -10,10 +12,10 @@ use Rattle.by_columns.proofs.behind.Statement.{statement}
 use Rattle.by_columns.proofs.behind.Tie as tie
 
 abbrev Inv-loop : tie.InvT-loop
-Inv-loop loads stores partners threads rows columns n k out₀ s₀ out s = Filled k (behindIn k (readIn k loads stores partners threads rows) (threadIn threads) (orderIn rows)) s out
+Inv-loop set loads stores partners threads rows columns n k out₀ s₀ out s = Filled k (λ s g. bit set s && behindIn k (readIn k loads stores partners threads rows) (threadIn threads) (orderIn rows) s g) s out
 
 abbrev μ-loop : tie.MeasureT-loop
-μ-loop loads stores partners threads rows columns n k out₀ s₀ out s = k - s
+μ-loop set loads stores partners threads rows columns n k out₀ s₀ out s = k - s
 
 pub behind-spec : {M : Type 1} → statement M
 behind-spec =
@@ -27,5 +29,5 @@ behind-spec =
     (λ c. search needs)
     (λ c. omega arith)
     (λ c. omega arith)
-    (λ c. fills (c .before .before .loop .inv) (c .before .loop-test .taken) (c .behind-store .ensures))
+    (λ c. fills (c .before .before .loop .inv) (c .before .loop-test .taken) (c .behind-event .ensures))
     (λ c. filled (c .before .loop .inv) (c .loop-test .left)))

@@ -1,7 +1,6 @@
 -- `by_columns::rule18` meets its contract. Assumes nothing.
 use borrow.Author.Needs.{needs}
 use mathlib.Core.Path.{_∙_}
-use Rattle.bits.specs.Bit.{bit}
 use Rattle.rows.specs.Sets.{orderIn, setIn}
 use Rattle.values.specs.Parts.{threadIn}
 use Rattle.by_columns.specs.Parts.{appliesIn, readIn}
@@ -15,8 +14,12 @@ rule18-spec =
     (tie.spec
     (λ c κs. search needs)
     (λ c κs. search needs)
+    (λ c κs. search needs)
+    (λ c κs. search needs)
     (λ c.
     let b = c .before .before in
-    let a = b .before .args in
+    let s = b .before in
+    let f = s .before in
+    let a = f .before .args in
     c .carried-on .ensures
-    ∙ by-behind (a .n) (a .k) (setIn (a .own .now)) (bit (a .barriers)) (appliesIn (a .barriers) (a .syncs) (a .stores) (a .loads)) (bit (a .stores)) (readIn (a .k) (a .loads) (a .stores) (a .partners .now) (a .threads .now) (a .rows .now)) (threadIn (a .threads .now)) (orderIn (a .rows .now)) (b .behind .ensures)))
+    ∙ by-behind (a .n) (a .k) (setIn (a .own .now)) (a .barriers) (a .stores) (appliesIn (a .barriers) (a .syncs) (a .stores) (a .loads)) (readIn (a .k) (a .loads) (a .stores) (a .partners .now) (a .threads .now) (a .rows .now)) (threadIn (a .threads .now)) (orderIn (a .rows .now)) (f .fenced .ensures) (s .both .ensures) (b .behind .ensures)))

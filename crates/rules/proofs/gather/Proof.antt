@@ -1,8 +1,15 @@
 -- `rules::gather` meets its contract. Assumes nothing.
+use Prim.Native.Nat.{_<_}
 use borrow.Author.Needs.{needs}
-use native.Mathlib.Omega.{arith}
-use Rattle.rules.proofs.Same.{access-address, agrees, depends-within, depends-by}
-use Rattle.rows.proofs.SetLaws.{set-below}
+use mathlib.Core.Path.{ap, _∙_}
+use mathlib.Core.Bool.{not, _&&_}
+use lib.Bits.{bitOr}
+use lib.Dec.{eqb, ltb}
+use lib.ListN.{getD}
+use Rattle.bits.specs.Bit.{bit}
+use Rattle.model.specs.Limits.{mostAddresses}
+use Rattle.rows.proofs.SetLaws.{set-below, set-same}
+use Rattle.rules.proofs.Same.{accessed, once}
 use Rattle.rules.proofs.gather.Statement.{statement}
 use Rattle.rules.proofs.gather.Tie as tie
 
@@ -16,21 +23,26 @@ gather-spec =
     (λ c κs. search needs)
     (λ c κs. search needs)
     (λ c κs.
-    let stores = c .before .before .before .before .before .before .before .before .before in
-    let loads = stores .before .before .before in
-    let s = loads .before .before .before in
-    (s .pre .events-most, access-address (s .args .t1) (s .pre) (loads .labelled .ensures) (stores .labelled2 .ensures)))
+    let l = c .before .before .before .before in
+    let s = l .before in
+    (s .pre .events, accessed (s .args .kinds .now) {P = λ e. getD (s .args .addresses .now) e 0 < mostAddresses} (l .labelled .ensures) (c .before .before .before .labelled2 .ensures) (s .pre .address)))
     (λ c κs. search needs)
-    (λ c κs. search needs)
-    (λ c κs. let s = c .before .before .before .before .before .before .before .before .before .before .before .before .before .before .before .before .before .before .before .before .before in depends-within (s .args .t1) (s .pre) (omega arith))
+    (λ c κs. let s = c .before .before .before .before .before .before .before .pre in (s .most, (s .from, s .to)))
     (λ c.
-    let links = c .before .before .before .before in
-    let partners = links .before .before in
-    let own = partners .before .before .before in
-    let every = own .before .before .before in
-    let syncs = every .before in
-    let stores = syncs .before .before .before in
-    let loads = stores .before .before .before in
-    let s = loads .before .before .before in
-    agrees (s .args .t1) (s .pre) (loads .labelled .ensures) (stores .labelled2 .ensures) (syncs .labelled3 .ensures) (set-below (s .args .t1 .events) (every .below .ensures)) (own .by-label .ensures) (partners .sharing .ensures) (links .before .minus .ensures)
-    (depends-by (s .args .t1) (links .link-count .ensures) (c .dependents .ensures))))
+    let p = c .before .before in
+    let o = p .before in
+    let e = o .before in
+    let f = e .before in
+    let t = f .before in
+    let l = t .before in
+    let a = l .before .args in
+    let every = set-below (a .k) (e .below .ensures) in
+    record {
+      loads = l .labelled .ensures;
+      stores = t .labelled2 .ensures;
+      syncs = f .labelled3 .ensures;
+      barriers = set-same (c .before .minus .ensures) (λ x. ap (λ u. u && not (bit (bitOr (l .labelled .result) (t .labelled2 .result)) x)) (every .has x));
+      own = record { has = λ x lx y. o .by-label .ensures .has x lx y ∙ once (ltb y (a .k)) (eqb (getD (a .threads .now) y 0) x) (every .has y) };
+      partners = p .sharing .ensures;
+      dependents = c .dependents .ensures;
+    }))

@@ -10,10 +10,10 @@ use Rattle.rules.proofs.seen_sets.Statement.{statement}
 use Rattle.rules.proofs.seen_sets.Tie as tie
 
 abbrev Inv-loop : tie.InvT-loop
-Inv-loop known own n k out₀ p₀ out p = Filled n (seenIn k known own) p out
+Inv-loop rows columns own n k out₀ p₀ out p = Filled n (seenIn k rows own) p out
 
 abbrev μ-loop : tie.MeasureT-loop
-μ-loop known own n k out₀ p₀ out p = n - p
+μ-loop rows columns own n k out₀ p₀ out p = n - p
 
 pub seen-sets-spec : {M : Type 1} → statement M
 seen-sets-spec =
