@@ -83,6 +83,20 @@ pub orders-begun : (s : List ℕ) (at n k : ℕ) (array₀ : List ℕ) → array
 unfolding times
 orders-begun s at n k array₀ z = table-begun mostThreads (λ _. order k) s at n array₀ z
 
+-- the first of them
+pub first-there : (array₀ : List ℕ) → array₀ ≡ replicate (mostThreads * mostEvents) 0 → mostEvents ≤ length array₀
+first-there array₀ z = omega (arith, ap length z, length-replicate {A = ℕ} (mostThreads * mostEvents) 0)
+
+module _ (s : List ℕ) (at n k : ℕ) (array₀ : List ℕ) (z : array₀ ≡ replicate (mostThreads * mostEvents) 0) (b : (1 ≤ n) × (n ≤ mostThreads)) where
+  module _ (last : List ℕ) (res : PlaceRead) (g : Stores (Padded mostEvents last) (order k s at) res) where
+    pub first-stop : (S : List (List ℕ) → Type 0) (f : Refusal) → res ≡ place.Refused f → Stores S (times n (order k) s at) res
+    first-stop S f u = table-stop _ _ _ _ _ _ _ _ 0 (orders-begun s at n k array₀ z) (b .0) last res g S f u
+
+    pub first-read : (q w : ℕ) → res ≡ place.Next q → w ≡ mostEvents → Orders s at n k (putMid 0 w array₀ last) (putMid 0 w array₀ last) q 1
+    first-read q w u e =
+        let t = table-next _ _ _ _ _ _ _ _ 0 (orders-begun s at n k array₀ z) (b .0) last res g (b .1) q w u e in
+        record { filling = t .filling; room = t .room; kept = refl }
+
 -- the addresses' write orders
 abbrev pub Writes : (s : List ℕ) (at m k : ℕ) (ks ts array₀ array : List ℕ) (place x : ℕ) → Type 0
 Writes s at m k ks ts array₀ array place x =

@@ -499,14 +499,20 @@ fn read_order(bytes: &[u8], at: usize, k: usize, rows: &mut [u64]) -> PlaceRead
     read_pairs(bytes, after_count, k, count as usize, rows)
 }
 
-// Reads the orders of so many threads into rows that hold zeros.
+// Reads the orders of so many threads, one at least, into rows that hold zeros. The first is read by itself: as read_order is called from two places,
+// it is compiled as a function of its own, whose loop then has the registers.
 fn read_orders(bytes: &[u8], at: usize, threads: usize, k: usize, rows: &mut [u64]) -> PlaceRead
-    requires { ⌜ (threads ≤ mostThreads) × (k ≤ mostEvents) ⌝ }
+    requires { ⌜ (1 ≤ threads) × (threads ≤ mostThreads) ⌝ }
+    requires { ⌜ k ≤ mostEvents ⌝ }
     requires { ⌜ now rows ≡ replicate (mostThreads * mostEvents) 0 ⌝ }
     ensures { λ r. ⌜ Stores (Tabled (mostThreads * mostEvents) (now (rows .exit))) (times threads (order k) (now (bytes .entry)) at) r ⌝ }
 {
-    let mut place = at;
-    let mut p: usize = 0;
+    let first = read_order(bytes, at, k, &mut rows[0..Case::MOST_EVENTS]);
+    let PlaceRead::Next(after_first) = first else {
+        return first;
+    };
+    let mut place = after_first;
+    let mut p: usize = 1;
     while p < threads {
         let start = p * Case::MOST_EVENTS;
         let end = start + Case::MOST_EVENTS;
