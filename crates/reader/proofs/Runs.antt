@@ -30,7 +30,8 @@ unfolding readNumber finish
 one-byte s at limit i h l = rw (read-last 0 s at i groups (omega arith) h (omega arith), le-ltb limit (getD s at 0) l)
 
 -- two bytes below k, in turn, are a pair
-two-bytes : (s : List ℕ) (at k least a b : ℕ) → k ≤ mostEvents → at + 1 < length s → getD s at 0 ≡ a → getD s (at + 1) 0 ≡ b → a < k → b < k → least ≤ a * k + b
+two-bytes : (s : List ℕ) (at k least a b : ℕ) → k ≤ mostEvents → at + 1 < length s → getD s at 0 ≡ a → getD s (at + 1) 0 ≡ b
+    → a < k → b < k → least ≤ a * k + b
     → risingPair k least s at ≡ next (record { a = a; b = b }) (at + 1 + 1)
 unfolding risingPair unless pair upTo below
 two-bytes s at k least a b m i ea eb ha hb l =
@@ -55,17 +56,20 @@ module _ (s : List ℕ) (k a at low₀ row₀ left₀ : ℕ) where
     unfolding nextPair
     ran-next l i ea eb lo hi row′ er =
         let q : p + 1 + 1 ≡ p + 2 = omega arith in
-        let w : risingPair k (a * k + low) s p ≡ next (record { a = a; b = b }) (p + 2) = rw (← q) (two-bytes s p k (a * k + low) a b (h .within .1) i ea eb (h .within .0) hi (omega arith)) in
+        let w : risingPair k (a * k + low) s p ≡ next (record { a = a; b = b }) (p + 2) =
+        rw (← q) (two-bytes s p k (a * k + low) a b (h .within .1) i ea eb (h .within .0) hi (omega arith)) in
+        let on : (rows : List ℕ) → a < length rows → nextPair k (inRow k a low row rows) s p ≡ next (inRow k a (b + 1) row′ rows) (p + 2) =
+        λ rows j. rw (w, er) (ap (λ (o : Rows). next o (p + 2)) (row-with k a low row b rows j)) in
         record {
           within = h .within;
           inside = omega arith;
           fewer = omega (arith, h .fewer);
-          same = λ rows j. h .same rows j ∙ turns-next (nextPair k) s left (left - 1) (inRow k a low row rows) (inRow k a (b + 1) row′ rows) p (p + 2) (omega arith) (rw (w, er) (ap (λ (o : Rows). next o (p + 2)) (row-with k a low row b rows j)));
+          same = λ rows j. h .same rows j ∙ turns-next (nextPair k) s left (left - 1) (inRow k a low row rows) (inRow k a (b + 1) row′ rows) p (p + 2) (omega arith) (on rows j);
         }
 
 -- one run behind the other
-pub ran-then : (s : List ℕ) (k a at low row left p low′ row′ left′ q low″ row″ left″ : ℕ) → Ran s k a at low row left p low′ row′ left′ → Ran s k a p low′ row′ left′ q low″ row″ left″
-    → Ran s k a at low row left q low″ row″ left″
+pub ran-then : (s : List ℕ) (k a at low row left p low′ row′ left′ q low″ row″ left″ : ℕ)
+    → Ran s k a at low row left p low′ row′ left′ → Ran s k a p low′ row′ left′ q low″ row″ left″ → Ran s k a at low row left q low″ row″ left″
 ran-then s k a at low row left p low′ row′ left′ q low″ row″ left″ f g = record {
   within = f .within;
   inside = g .inside;
@@ -154,7 +158,9 @@ module _ (s : List ℕ) (a at low₀ row₀ most p low row left : ℕ) (h : Risi
             let z : left - 1 + more ≡ left + more - 1 = omega (arith, here .some) in
             let m : b % mostEvents ≡ b = omega (arith, w .1) in
             let so : Ran s k a at low₀ row₀ (most + more) p low row (left + more) = h .rose .ran k more w (omega arith) in
-            rw z (ran-next s k a at low₀ row₀ (most + more) p low row (left + more) b so (omega (arith, here .some)) second-there (here .first) (sym (eb .0)) lo (omega arith) row′ (rw m at er));
+            rw z
+            (ran-next s k a at low₀ row₀ (most + more) p low row (left + more) b so (omega (arith, here .some)) second-there (here .first) (sym (eb .0)) lo (omega arith) row′
+            (rw m at er));
       };
       room = omega (arith, h .room);
       size = h .size;
@@ -175,9 +181,16 @@ pub record Running (s : List ℕ) (k a at low₀ row₀ left₀ last p low row l
   pub back : last ≤ left
   pub small : left < 2 ^ 64
 
-pub run-begun : (s : List ℕ) (k a at low₀ row₀ left₀ last : ℕ) → low₀ ≤ k → ((left₀ - last) * 2 ≤ length s - at) × (last ≤ left₀) → (a < k) × (k ≤ mostEvents) → left₀ < 2 ^ 64
+pub run-begun : (s : List ℕ) (k a at low₀ row₀ left₀ last : ℕ)
+    → low₀ ≤ k → ((left₀ - last) * 2 ≤ length s - at) × (last ≤ left₀) → (a < k) × (k ≤ mostEvents) → left₀ < 2 ^ 64
     → Running s k a at low₀ row₀ left₀ last at low₀ row₀ left₀ 0
-run-begun s k a at low₀ row₀ left₀ last h r m z = record { within = m; ran = λ _. ran-none s k a at low₀ row₀ left₀ m h; room = r .0; back = r .1; small = z }
+run-begun s k a at low₀ row₀ left₀ last h r m z = record {
+  within = m;
+  ran = λ _. ran-none s k a at low₀ row₀ left₀ m h;
+  room = r .0;
+  back = r .1;
+  small = z;
+}
 
 module _ (s : List ℕ) (k a at low₀ row₀ left₀ last p low row left missed : ℕ) (h : Running s k a at low₀ row₀ left₀ last p low row left missed) where
   pub run-ends : low ≤ k → Ran s k a at low₀ row₀ left₀ p low row left

@@ -369,7 +369,7 @@ fn follows(bytes: &[u8], at: usize, a: usize, low: usize, left: usize) -> bool
     false
 }
 
-// Takes at most so many pairs of row a, of two bytes each, as long as they rise. Whether they are below k is asked behind them, once: they rise.
+// Takes at most so many pairs of row a, of two bytes each, as long as they rise. Since they do, the caller need only ask whether the last is below k.
 fn take_pairs(bytes: &[u8], at: usize, a: usize, from: usize, old: u64, most: usize) -> Run
     requires { ⌜ most * 2 ≤ length (now bytes) - at ⌝ }
     ensures { λ r. ⌜ Rose (now (bytes .entry)) a at from old most (r .place) (r .low) (r .row) (r .left) ⌝ }
@@ -393,7 +393,7 @@ fn take_pairs(bytes: &[u8], at: usize, a: usize, from: usize, old: u64, most: us
     }
 }
 
-// Whether none of the last pairs was missed, and there is room for as many again.
+// Whether all of the pairs tried last were taken, and as many again are left that have room.
 fn goes_on(missed: usize, last: usize, left: usize) -> bool
     requires { ⌜ last ≤ left ⌝ }
     ensures { λ r. ⌜ r ≡ (eqb missed 0 && leb atOnce (left - last)) ⌝ }

@@ -26,7 +26,10 @@ read-orders-spec =
     (λ c. search needs)
     (λ c. search needs)
     (λ c. search first-stop)
-    (λ c. first-read _ _ _ _ _ (c .before .before .before .before .before .before .before .before .before .pre .1 .1) (c .before .before .before .before .before .before .before .before .before .pre .0) _ _ (c .before .before .before .before .before .read-order .ensures) _ _ (c .before .first .given .1) refl)
+    (λ c.
+    let b = c .before .before .before .before .before in
+    let e = b .before .before .before .before in
+    first-read _ _ _ _ _ (e .pre .1 .1) (e .pre .0) _ _ (b .read-order .ensures) _ _ (c .before .first .given .1) refl)
     (λ c. search needs)
     (λ c. search needs)
     (λ c. search needs)

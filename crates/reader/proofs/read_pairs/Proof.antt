@@ -32,6 +32,9 @@ read-pairs-spec =
     (λ c. row-fits′ _ _ _ _ _ _ _ _ _ _ _ (c .take-run .ensures))
     (λ c. least-fits _ _ _ _ _ _ _ _ _ _ _ (c .before .take-run .ensures))
     (λ c. run-less _ _ _ _ _ _ _ _ _ _ _ (c .before .take-run .ensures) (c .before .before .before .before .before .before .before .before .loop-test .taken))
-    (λ c. one-run _ _ _ _ _ _ _ _ _ (c .before .before .before .before .before .before .before .before .before .loop .inv) (c .before .before .before .before .before .before .before .before .loop-test .taken) _ _ _ _ (c .before .before .before .before .before .before .before .read-next .ensures) (c .before .before .before .before .before .read2 .given .1) _ _ _ _ _ (c .before .take-run .ensures) (c .before .before .with .ensures))
+    (λ c.
+    let b = c .before .before .before .before .before in
+    one-run _ _ _ _ _ _ _ _ _ (b .before .before .before .before .loop .inv) (b .before .before .before .loop-test .taken) _ _ _ _
+    (b .before .before .read-next .ensures) (b .read2 .given .1) _ _ _ _ _ (c .before .take-run .ensures) (c .before .before .with .ensures))
     (λ c. search needs)
     (λ c. search all-read))
