@@ -5,12 +5,12 @@ mod common;
 use common::plain;
 use ordinary::answer::MODEL;
 use ordinary::generate;
-use ordinary::judge::{judge, printed_verdict, PPCS, PPCW};
+use ordinary::judge::{judge, printed_verdict, PPCS, PPCW, RULES};
 use ordinary::judge::{verdict_with_16_bits, verdict_with_syncs, verdict_without_dependencies};
 use ordinary::limits::{EDITIONS, EVENTS};
 use ordinary::random::Random;
 use ordinary::tally::{heading, model_name, stated_edition, Tally};
-use ordinary::{read, rows, write};
+use ordinary::{read, rows, write, Case};
 
 const INPUTS: usize = 200_000;
 
@@ -120,6 +120,34 @@ fn every_size() {
                 compare(&record, model);
                 assert_eq!(rows::judge(&record, model), judge(&record, model));
             }
+        }
+    }
+}
+
+/// Executions of every size in which each thread has its own order, and such as break a rule in one
+/// thread's order; each verdict comes up in each edition under each model.
+#[test]
+fn own_orders_and_broken_rules() {
+    let mut random = Random::new(22);
+    let mut tally = Tally::default();
+    let mut add = |case: &Case| {
+        let record = write::record(case);
+        for model in [PPCW, PPCS] {
+            tally.add(heading(case.edition, model), compare(&record, model));
+        }
+    };
+    for i in 0..1_200 {
+        let (count, edition) = (2 + i % (EVENTS - 1), EDITIONS[i % EDITIONS.len()]);
+        let case = generate::own_orders(&mut random, edition, count);
+        add(&case);
+        for rule in RULES {
+            add(&generate::breaking(&mut random, &case, rule));
+        }
+    }
+    println!("own orders, as they are and broken:\n{tally}");
+    for edition in EDITIONS {
+        for model in [PPCW, PPCS] {
+            tally.assert_each(heading(edition, model), [0].into_iter().chain(RULES), 20);
         }
     }
 }

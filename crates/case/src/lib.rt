@@ -432,8 +432,9 @@ pub fn store_at(
     requires { ⌜ e < mostEvents ⌝ }
     ensures { λ r. ⌜ r ≡ storeAt (now (kinds .entry)) (now (targets .entry)) x e ⌝ }
 {
+    let to = wide(targets[e]);
     if kinds[e] == Case::STORE {
-        return wide(targets[e]) == x;
+        return to == x;
     }
     false
 }
