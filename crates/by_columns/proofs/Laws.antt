@@ -17,10 +17,10 @@ use Rattle.rows.specs.May.{Relation, pairs, mustRead, may18}
 use Rattle.rows.proofs.SetLaws.{either, set-as, set-same, set-below, share, as-set, imp-yes, some-out}
 use Rattle.values.specs.Parts.{threadIn, explained, carried}
 use Rattle.values.proofs.Laws.{store-by-store}
-use Rattle.by_columns.specs.Parts.{Turned, Joined, Shared, appliesIn, replaced, carriedTo, readIn, behindIn, carriedBehind}
+use Rattle.by_columns.specs.Parts.{WithColumns, Joined, Shared, appliesIn, replaced, carriedTo, readIn, behindIn, carriedBehind}
 
 -- what comes before b, by its column
-pub earlier-set : {n k : ℕ} {rows columns : List ℕ} (p b : ℕ) {mask column r : ℕ} → Turned n k rows columns → p < n → b < k → r ≡ bitAnd mask column → mask ≡ 2 ^ k - 1 → column ≡ rowIn columns p b
+pub earlier-set : {n k : ℕ} {rows columns : List ℕ} (p b : ℕ) {mask column r : ℕ} → WithColumns n k rows columns → p < n → b < k → r ≡ bitAnd mask column → mask ≡ 2 ^ k - 1 → column ≡ rowIn columns p b
     → Set r (λ e. ltb e k && orderIn rows p e b)
 earlier-set {n} {k} {rows} {columns} p b t lp lb h hm hc =
     set-same (set-as h (share (set-below k hm) (as-set hc))) (λ e. within e (ltb e k) refl)
@@ -258,7 +258,7 @@ pub reached-of : (k : ℕ) (behind : ℕ → ℕ → Bool) {set r : ℕ} {f : �
 reached-of k behind s r = set-same r (λ g. some-same k _ _ (λ e le. ap (λ t. t && behind e g) (s .has e)))
 
 -- what the columns of all threads share
-pub joined-columns : {n k : ℕ} {rows columns joined : List ℕ} → Turned n k rows columns → Sets k joined (λ g e. all n (λ q. orderIn columns q g e)) → Joined n k rows joined
+pub joined-columns : {n k : ℕ} {rows columns joined : List ℕ} → WithColumns n k rows columns → Sets k joined (λ g e. all n (λ q. orderIn columns q g e)) → Joined n k rows joined
 joined-columns {n} t s = record {
   events = t .events;
   everywhere = λ g lg e le. s .has g lg e ∙ all-same n _ _ (λ q lq. t .turned .turned q lq e le g lg);
@@ -277,7 +277,7 @@ some-either k f g =
     (λ t. or-l (some k f) (some k g) (some-make k f x l t)) u))
 
 -- by what rows and columns hold
-pub paired-set : {n k : ℕ} {rows columns : List ℕ} (p : ℕ) {after before mask r : ℕ} → Turned n k rows columns → p < n → Set after (λ e. some k (λ a. orderIn rows p a e))
+pub paired-set : {n k : ℕ} {rows columns : List ℕ} (p : ℕ) {after before mask r : ℕ} → WithColumns n k rows columns → p < n → Set after (λ e. some k (λ a. orderIn rows p a e))
     → Set before (λ e. some k (λ a. orderIn columns p a e)) → mask ≡ 2 ^ k - 1 → r ≡ bitAnd (bitOr after before) mask → Set r (λ e. ltb e k && pairs k (orderIn rows) p e)
 unfolding pairs
 paired-set {n} {k} {rows} {columns} p t lp s u m h = set-same (set-as h (share (either s u) (set-below k m))) (λ e. by e (ltb e k) refl)

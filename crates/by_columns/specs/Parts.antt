@@ -15,7 +15,7 @@ use Rattle.values.specs.Parts.{threadIn, carried}
 use Rattle.columns.specs.Columns.{Columns}
 
 -- so many threads and events are within the limits, and the columns are those of the rows
-pub record Turned (n k : ℕ) (rows columns : List ℕ) : Type 0 where
+pub record WithColumns (n k : ℕ) (rows columns : List ℕ) : Type 0 where
   pub threads : n ≤ mostThreads
   pub events : k ≤ mostEvents
   pub turned : Columns n k rows columns

@@ -12,7 +12,7 @@ ghost use Rattle.rows.specs.Sets.{Set, Sets, orderIn, setIn, storeIn};
 ghost use Rattle.rows.specs.May.{pairs, may12, may15, may16, may17, may18};
 ghost use Rattle.orders.specs.Parts.{connected};
 ghost use Rattle.values.specs.Parts.{equalIn, threadIn, supplied, overwritten, carried as carriedOf, cumulative};
-ghost use Rattle.by_columns.specs.Parts.{Turned, Joined, Shared, appliesIn, replaced, carriedTo, readIn, behindIn, carriedBehind};
+ghost use Rattle.by_columns.specs.Parts.{WithColumns, Joined, Shared, appliesIn, replaced, carriedTo, readIn, behindIn, carriedBehind};
 use case::Case;
 
 // What comes before event b in p's order.
@@ -24,7 +24,7 @@ fn earlier<'a>(
     p: usize,
     b: usize,
 ) -> u64
-    requires { ⌜ Turned n k (now rows) (now columns) ⌝ }
+    requires { ⌜ WithColumns n k (now rows) (now columns) ⌝ }
     requires { ⌜ p < n ⌝ }
     requires { ⌜ b < k ⌝ }
     ensures { λ r. ⌜ Set r (λ e. ltb e k && orderIn (now (rows .entry)) p e b) ⌝ }
@@ -42,7 +42,7 @@ fn earlier_of<'a>(
     set: u64,
     b: usize,
 ) -> u64
-    requires { ⌜ Turned n k (now rows) (now columns) ⌝ }
+    requires { ⌜ WithColumns n k (now rows) (now columns) ⌝ }
     requires { ⌜ p < n ⌝ }
     requires { ⌜ b < k ⌝ }
     ensures { λ r. ⌜ Set r (λ e. ltb e k && (bit set e && orderIn (now (rows .entry)) p e b)) ⌝ }
@@ -71,7 +71,7 @@ pub fn paired<'a>(
     k: usize,
     p: usize,
 ) -> u64
-    requires { ⌜ Turned n k (now rows) (now columns) ⌝ }
+    requires { ⌜ WithColumns n k (now rows) (now columns) ⌝ }
     requires { ⌜ p < n ⌝ }
     ensures { λ r. ⌜ Set r (λ e. ltb e k && pairs k (orderIn (now (rows .entry))) p e) ⌝ }
 {
@@ -90,7 +90,7 @@ fn connected_event<'a>(
     p: usize,
     a: usize,
 ) -> bool
-    requires { ⌜ Turned n k (now rows) (now columns) ⌝ }
+    requires { ⌜ WithColumns n k (now rows) (now columns) ⌝ }
     requires { ⌜ p < n ⌝ }
     requires { ⌜ a < k ⌝ }
     requires { ⌜ bit own a ≡ true ⌝ }
@@ -109,7 +109,7 @@ fn connected_order<'a>(
     k: usize,
     p: usize,
 ) -> bool
-    requires { ⌜ Turned n k (now rows) (now columns) ⌝ }
+    requires { ⌜ WithColumns n k (now rows) (now columns) ⌝ }
     requires { ⌜ p < n ⌝ }
     ensures { λ r. ⌜ r ≡ all k (connected k (bit own) (orderIn (now (rows .entry)) p)) ⌝ }
 {
@@ -131,7 +131,7 @@ pub fn rule12<'a>(
     n: usize,
     k: usize,
 ) -> bool
-    requires { ⌜ Turned n k (now rows) (now columns) ⌝ }
+    requires { ⌜ WithColumns n k (now rows) (now columns) ⌝ }
     ensures { λ r. ⌜ r ≡ may12 n k (setIn (now (own .entry))) (orderIn (now (rows .entry))) ⌝ }
 {
     for p in 0..n {
@@ -155,7 +155,7 @@ fn supplied_load<'a>(
     p: usize,
     l: usize,
 ) -> bool
-    requires { ⌜ Turned n k (now rows) (now columns) ⌝ }
+    requires { ⌜ WithColumns n k (now rows) (now columns) ⌝ }
     requires { ⌜ p < n ⌝ }
     requires { ⌜ l < k ⌝ }
     requires { ⌜ (bit judged l && not (bit fresh l)) ≡ true ⌝ }
@@ -177,7 +177,7 @@ fn supplied_order<'a>(
     k: usize,
     p: usize,
 ) -> bool
-    requires { ⌜ Turned n k (now rows) (now columns) ⌝ }
+    requires { ⌜ WithColumns n k (now rows) (now columns) ⌝ }
     requires { ⌜ p < n ⌝ }
     ensures { λ r. ⌜ r ≡ all k (supplied k (bit judged) (bit fresh) (storeIn stores (now (partners .entry))) (orderIn (now (rows .entry)) p)) ⌝ }
 {
@@ -205,7 +205,7 @@ pub fn rule15<'a>(
     n: usize,
     k: usize,
 ) -> bool
-    requires { ⌜ Turned n k (now rows) (now columns) ⌝ }
+    requires { ⌜ WithColumns n k (now rows) (now columns) ⌝ }
     ensures { λ r. ⌜ r ≡ may15 n k (setIn (now (judged .entry))) (bit fresh) (storeIn stores (now (partners .entry))) (orderIn (now (rows .entry))) ⌝ }
 {
     for p in 0..n {
@@ -281,7 +281,7 @@ fn overwritten_load<'a>(
     p: usize,
     l: usize,
 ) -> bool
-    requires { ⌜ Turned n k (now rows) (now columns) ⌝ }
+    requires { ⌜ WithColumns n k (now rows) (now columns) ⌝ }
     requires { ⌜ p < n ⌝ }
     requires { ⌜ l < k ⌝ }
     requires { ⌜ bit judged l ≡ true ⌝ }
@@ -306,7 +306,7 @@ fn overwritten_order<'a>(
     k: usize,
     p: usize,
 ) -> bool
-    requires { ⌜ Turned n k (now rows) (now columns) ⌝ }
+    requires { ⌜ WithColumns n k (now rows) (now columns) ⌝ }
     requires { ⌜ p < n ⌝ }
     ensures { λ r. ⌜ r ≡ all k (overwritten k (bit judged) (bit seen) (storeIn stores (now (partners .entry))) (equalIn (now (values .entry))) (orderIn (now (rows .entry)) p)) ⌝ }
 {
@@ -345,7 +345,7 @@ pub fn rule16<'a>(
     n: usize,
     k: usize,
 ) -> bool
-    requires { ⌜ Turned n k (now rows) (now columns) ⌝ }
+    requires { ⌜ WithColumns n k (now rows) (now columns) ⌝ }
     ensures { λ r. ⌜ r ≡ may16 n k (setIn (now (judged .entry))) (setIn (now (seen .entry))) (storeIn stores (now (partners .entry))) (equalIn (now (values .entry))) (orderIn (now (rows .entry))) ⌝ }
 {
     for p in 0..n {
@@ -474,7 +474,7 @@ fn cumulative_barrier<'a>(
     p: usize,
     f: usize,
 ) -> bool
-    requires { ⌜ Turned n k (now rows) (now columns) ⌝ }
+    requires { ⌜ WithColumns n k (now rows) (now columns) ⌝ }
     requires { ⌜ Joined n k (now rows) (now joined) ⌝ }
     requires { ⌜ p < n ⌝ }
     requires { ⌜ f < k ⌝ }
@@ -512,7 +512,7 @@ fn cumulative_order<'a>(
     k: usize,
     p: usize,
 ) -> bool
-    requires { ⌜ Turned n k (now rows) (now columns) ⌝ }
+    requires { ⌜ WithColumns n k (now rows) (now columns) ⌝ }
     requires { ⌜ Joined n k (now rows) (now joined) ⌝ }
     requires { ⌜ p < n ⌝ }
     ensures { λ r. ⌜ r ≡ all k (cumulative k n (bit own) (bit barriers) (appliesIn barriers syncs stores loads) (orderIn (now (rows .entry)) p) (orderIn (now (rows .entry)))) ⌝ }
@@ -555,7 +555,7 @@ pub fn rule17<'a>(
     n: usize,
     k: usize,
 ) -> bool
-    requires { ⌜ Turned n k (now rows) (now columns) ⌝ }
+    requires { ⌜ WithColumns n k (now rows) (now columns) ⌝ }
     requires { ⌜ Joined n k (now rows) (now joined) ⌝ }
     ensures { λ r. ⌜ r ≡ may17 n k (setIn (now (own .entry))) (bit barriers) (appliesIn barriers syncs stores loads) (orderIn (now (rows .entry))) (orderIn (now (rows .entry))) ⌝ }
 {
@@ -592,7 +592,7 @@ fn must_read<'a>(
     l: usize,
     s: usize,
 ) -> bool
-    requires { ⌜ Turned n k (now rows) (now columns) ⌝ }
+    requires { ⌜ WithColumns n k (now rows) (now columns) ⌝ }
     requires { ⌜ l < k ⌝ }
     requires { ⌜ s < k ⌝ }
     requires { ⌜ getD (now threads) l 0 < n ⌝ }
@@ -623,7 +623,7 @@ fn behind_load<'a>(
     s: usize,
     l: usize,
 ) -> u64
-    requires { ⌜ Turned n k (now rows) (now columns) ⌝ }
+    requires { ⌜ WithColumns n k (now rows) (now columns) ⌝ }
     requires { ⌜ l < k ⌝ }
     requires { ⌜ s < k ⌝ }
     requires { ⌜ getD (now threads) l 0 < n ⌝ }
@@ -646,7 +646,7 @@ fn behind_store<'a>(
     k: usize,
     s: usize,
 ) -> u64
-    requires { ⌜ Turned n k (now rows) (now columns) ⌝ }
+    requires { ⌜ WithColumns n k (now rows) (now columns) ⌝ }
     requires { ⌜ Shared n k (now partners) (now threads) ⌝ }
     requires { ⌜ s < k ⌝ }
     ensures { λ r. ⌜ Set r (behindIn k (readIn k loads stores (now (partners .entry)) (now (threads .entry)) (now (rows .entry))) (threadIn (now (threads .entry))) (orderIn (now (rows .entry))) s) ⌝ }
@@ -675,7 +675,7 @@ fn behind_event<'a>(
     k: usize,
     s: usize,
 ) -> u64
-    requires { ⌜ Turned n k (now rows) (now columns) ⌝ }
+    requires { ⌜ WithColumns n k (now rows) (now columns) ⌝ }
     requires { ⌜ Shared n k (now partners) (now threads) ⌝ }
     requires { ⌜ s < k ⌝ }
     ensures { λ r. ⌜ Set r (λ g. bit set s && behindIn k (readIn k loads stores (now (partners .entry)) (now (threads .entry)) (now (rows .entry))) (threadIn (now (threads .entry))) (orderIn (now (rows .entry))) s g) ⌝ }
@@ -699,7 +699,7 @@ fn behind<'a>(
     n: usize,
     k: usize,
 ) -> [u64; Case::MOST_EVENTS]
-    requires { ⌜ Turned n k (now rows) (now columns) ⌝ }
+    requires { ⌜ WithColumns n k (now rows) (now columns) ⌝ }
     requires { ⌜ Shared n k (now partners) (now threads) ⌝ }
     ensures { λ r. ⌜ Sets k r (λ s g. bit set s && behindIn k (readIn k loads stores (now (partners .entry)) (now (threads .entry)) (now (rows .entry))) (threadIn (now (threads .entry))) (orderIn (now (rows .entry))) s g) ⌝ }
 {
@@ -755,7 +755,7 @@ fn fenced<'a>(
     found
 }
 
-// What the events of the set have behind them.
+// What `behind` holds for the events of the set.
 fn reached(behind: &[u64; Case::MOST_EVENTS], k: usize, set: u64) -> u64
     requires { ⌜ k ≤ mostEvents ⌝ }
     ensures { λ r. ⌜ Set r (λ g. some k (λ s. bit set s && setIn (now (behind .entry)) s g)) ⌝ }
@@ -785,7 +785,7 @@ fn carried_on_barrier<'a>(
     p: usize,
     f: usize,
 ) -> bool
-    requires { ⌜ Turned n k (now rows) (now columns) ⌝ }
+    requires { ⌜ WithColumns n k (now rows) (now columns) ⌝ }
     requires { ⌜ Joined n k (now rows) (now joined) ⌝ }
     requires { ⌜ p < n ⌝ }
     requires { ⌜ f < k ⌝ }
@@ -825,7 +825,7 @@ fn carried_on_order<'a>(
     k: usize,
     p: usize,
 ) -> bool
-    requires { ⌜ Turned n k (now rows) (now columns) ⌝ }
+    requires { ⌜ WithColumns n k (now rows) (now columns) ⌝ }
     requires { ⌜ Joined n k (now rows) (now joined) ⌝ }
     requires { ⌜ p < n ⌝ }
     ensures { λ r. ⌜ r ≡ all k (carriedBehind k n (bit own) (bit barriers) (appliesIn barriers syncs stores loads) (bit stores) (setIn (now (behind .entry))) p (orderIn (now (rows .entry)))) ⌝ }
@@ -856,7 +856,7 @@ fn carried_on_order<'a>(
     true
 }
 
-// Rule 18, where what loads have behind them is known.
+// Rule 18, by what comes after the loads that must read from each event (`behind`).
 fn carried_on<'a>(
     own: &'a [u64; Case::MOST_THREADS],
     barriers: u64,
@@ -870,7 +870,7 @@ fn carried_on<'a>(
     n: usize,
     k: usize,
 ) -> bool
-    requires { ⌜ Turned n k (now rows) (now columns) ⌝ }
+    requires { ⌜ WithColumns n k (now rows) (now columns) ⌝ }
     requires { ⌜ Joined n k (now rows) (now joined) ⌝ }
     ensures { λ r. ⌜ r ≡ all n (λ p. all k (carriedBehind k n (setIn (now (own .entry)) p) (bit barriers) (appliesIn barriers syncs stores loads) (bit stores) (setIn (now (behind .entry))) p (orderIn (now (rows .entry))))) ⌝ }
 {
@@ -910,7 +910,7 @@ pub fn rule18<'a>(
     n: usize,
     k: usize,
 ) -> bool
-    requires { ⌜ Turned n k (now rows) (now columns) ⌝ }
+    requires { ⌜ WithColumns n k (now rows) (now columns) ⌝ }
     requires { ⌜ Joined n k (now rows) (now joined) ⌝ }
     requires { ⌜ Shared n k (now partners) (now threads) ⌝ }
     ensures { λ r. ⌜ r ≡ may18 n k (setIn (now (own .entry))) (bit barriers) (appliesIn barriers syncs stores loads) (bit stores) (readIn k loads stores (now (partners .entry)) (now (threads .entry)) (now (rows .entry))) (threadIn (now (threads .entry))) (orderIn (now (rows .entry))) (orderIn (now (rows .entry))) ⌝ }

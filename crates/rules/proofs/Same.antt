@@ -27,7 +27,7 @@ use Rattle.rows.specs.May.{pairs, mustRead, may11, may12, may13, may14, may15, 
 use Rattle.orders.specs.Parts.{writesIn, writtenIn}
 use Rattle.values.specs.Parts.{equalIn, threadIn}
 use Rattle.columns.specs.Columns.{Columns}
-use Rattle.by_columns.specs.Parts.{Turned, Shared, appliesIn, readIn}
+use Rattle.by_columns.specs.Parts.{WithColumns, Shared, appliesIn, readIn}
 use Rattle.rules.specs.declared.EventSets.{EventSets}
 use Rattle.rules.specs.Verdict.{Agrees, InRange, Sorted, Listed, Seen, Judged, modelOf, sharedIn, seenIn, judgedIn, freshIn, orderVerdict, valueVerdict, barrierVerdict, orderBroken, valueBroken, barrierBroken}
 use Rattle.rules.proofs.Means.{thread-in, address-in, value-in, initial-in, before-in, load-in, store-in, sync-in, barrier-in, of-in, depends-in, load-full, store-full, full-kind, twice-not, not-not}
@@ -305,7 +305,7 @@ module _ (c : Held) (g : EventSets) (sound : Sound c) (agree : Agrees (caseOf c)
   barrier-is = rw (same17, same18) refl
 
 -- the columns are those of the case's rows
-pub turned : {c : Held} {columns : List ℕ} → Sound c → Columns (c .threads) (c .events) (c .rows) columns → Turned (c .threads) (c .events) (c .rows) columns
+pub turned : {c : Held} {columns : List ℕ} → Sound c → Columns (c .threads) (c .events) (c .rows) columns → WithColumns (c .threads) (c .events) (c .rows) columns
 turned sound t = record { threads = sound .threads-most; events = sound .events-most; turned = t }
 
 -- a load comes after the store from which it must read, in its thread's order

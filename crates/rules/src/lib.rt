@@ -12,7 +12,7 @@ ghost use Rattle.case.specs.Held.{caseOf};
 ghost use Rattle.case.specs.Sound.{Sound};
 ghost use Rattle.rows.specs.Sets.{Set, Sets, orderIn};
 ghost use Rattle.rows.specs.May.{may11};
-ghost use Rattle.by_columns.specs.Parts.{Turned, Shared};
+ghost use Rattle.by_columns.specs.Parts.{WithColumns, Shared};
 ghost use Rattle.rules.specs.Finals.{storedIn, valueIn, lastIn, finalIn};
 ghost use Rattle.rules.specs.Verdict.{InRange, Sorted, Listed, modelOf, sharedIn, seenIn, chosenIn, judgedIn, freshIn, orderBroken, valueBroken, barrierBroken};
 use case::Case;
@@ -80,7 +80,7 @@ fn seen_sets<'a>(
     n: usize,
     k: usize,
 ) -> [u64; Case::MOST_THREADS]
-    requires { ⌜ Turned n k (now rows) (now columns) ⌝ }
+    requires { ⌜ WithColumns n k (now rows) (now columns) ⌝ }
     ensures { λ r. ⌜ Sets n r (seenIn k (now (rows .entry)) (now (own .entry))) ⌝ }
 {
     let mut out = [0u64; Case::MOST_THREADS];
@@ -167,7 +167,7 @@ fn broken_order<'a>(
     n: usize,
     k: usize,
 ) -> u8
-    requires { ⌜ Turned n k (now rows) (now columns) ⌝ }
+    requires { ⌜ WithColumns n k (now rows) (now columns) ⌝ }
     requires { ⌜ Listed k stores (now partners) (now addresses) (now writes) ⌝ }
     ensures { λ r. ⌜ r ≡ orderBroken n k (now (own .entry)) barriers stores (now (partners .entry)) (now (dependents .entry)) (now (addresses .entry)) (now (writes .entry)) (now (rows .entry)) ⌝ }
 {
@@ -199,7 +199,7 @@ fn broken_value<'a>(
     n: usize,
     k: usize,
 ) -> u8
-    requires { ⌜ Turned n k (now rows) (now columns) ⌝ }
+    requires { ⌜ WithColumns n k (now rows) (now columns) ⌝ }
     ensures { λ r. ⌜ r ≡ valueBroken n k (now (judged .entry)) (now (seen .entry)) fresh stores (now (partners .entry)) (now (values .entry)) (now (rows .entry)) ⌝ }
 {
     if !by_columns::rule15(judged, fresh, stores, partners, rows, columns, n, k) {
@@ -225,7 +225,7 @@ fn broken_barrier<'a>(
     n: usize,
     k: usize,
 ) -> u8
-    requires { ⌜ Turned n k (now rows) (now columns) ⌝ }
+    requires { ⌜ WithColumns n k (now rows) (now columns) ⌝ }
     requires { ⌜ Shared n k (now partners) (now threads) ⌝ }
     requires { ⌜ 1 ≤ n ⌝ }
     requires { ⌜ may11 n k (orderIn (now rows)) (orderIn (now rows)) ≡ true ⌝ }
