@@ -4,5 +4,8 @@ pub mod Relation
 pub mod Subsystem
 pub mod Layout
 pub mod Written
+pub mod Bound
+pub mod Fits
+pub mod Sound
 pub mod Answers
 pub mod Worked
