@@ -1,0 +1,47 @@
+-- How many writes and barriers the steps of a trace accept.
+-- Assumes nothing.
+use Prim.Native.Nat.{ℕ, _+_, _≤_, _<_}
+use native.Mathlib.Nat.{add-assoc, add-zero}
+use native.Mathlib.Omega.{arith}
+use mathlib.Core.Path.{_≡_, refl, sym, ap, _∙_}
+use mathlib.Core.List.{List, [], _∷_, _++_}
+use Rattle.storage_model.specs.Limits.{mostWrites, mostBarriers}
+use Rattle.storage_model.specs.Trace.{Step, acceptWrite, acceptBarrier, propagateWrite, propagateBarrier, commit, respond, acknowledge, writesOf, barriersOf, writesIn, barriersIn}
+use Rattle.storage_model.specs.Fits.{StepFits}
+
+pub writes-grown : (before : List Step) (x : Step) → writesIn (before ++ (x ∷ [])) ≡ writesIn before + writesOf x
+unfolding writesIn
+writes-grown [] x = omega arith
+writes-grown (y ∷ before) x = ap (λ (i : ℕ). writesOf y + i) (writes-grown before x) ∙ sym (add-assoc (writesOf y) (writesIn before) (writesOf x))
+
+pub barriers-grown : (before : List Step) (x : Step) → barriersIn (before ++ (x ∷ [])) ≡ barriersIn before + barriersOf x
+unfolding barriersIn
+barriers-grown [] x = omega arith
+barriers-grown (y ∷ before) x =
+    ap (λ (i : ℕ). barriersOf y + i) (barriers-grown before x) ∙ sym (add-assoc (barriersOf y) (barriersIn before) (barriersOf x))
+
+-- no more than there may be
+pub few-writes : (n m w b : ℕ) (x : Step) → StepFits n m w b x → w ≤ mostWrites → w + writesOf x ≤ mostWrites
+few-writes n m w b (acceptWrite t a v) F l = omega (arith, F .0)
+few-writes n m w b (acceptBarrier t c) F l = omega arith
+few-writes n m w b (propagateWrite x t) F l = omega arith
+few-writes n m w b (propagateBarrier x t) F l = omega arith
+few-writes n m w b (commit x y) F l = omega arith
+few-writes n m w b (respond t a v) F l = omega arith
+few-writes n m w b (acknowledge x) F l = omega arith
+
+pub few-barriers : (n m w b : ℕ) (x : Step) → StepFits n m w b x → b ≤ mostBarriers → b + barriersOf x ≤ mostBarriers
+few-barriers n m w b (acceptWrite t a v) F l = omega arith
+few-barriers n m w b (acceptBarrier t c) F l = omega (arith, F .0)
+few-barriers n m w b (propagateWrite x t) F l = omega arith
+few-barriers n m w b (propagateBarrier x t) F l = omega arith
+few-barriers n m w b (commit x y) F l = omega arith
+few-barriers n m w b (respond t a v) F l = omega arith
+few-barriers n m w b (acknowledge x) F l = omega arith
+
+module _ (n m : ℕ) (before : List Step) (x : Step) (F : StepFits n m (writesIn before) (barriersIn before) x) where
+  pub writes-few : writesIn before ≤ mostWrites → writesIn (before ++ (x ∷ [])) ≤ mostWrites
+  writes-few l = rw (writes-grown before x) (few-writes n m (writesIn before) (barriersIn before) x F l)
+
+  pub barriers-few : barriersIn before ≤ mostBarriers → barriersIn (before ++ (x ∷ [])) ≤ mostBarriers
+  barriers-few l = rw (barriers-grown before x) (few-barriers n m (writesIn before) (barriersIn before) x F l)
