@@ -5,8 +5,10 @@ use native.Mathlib.Nat.{add-assoc, add-zero}
 use native.Mathlib.Omega.{arith}
 use mathlib.Core.Path.{_≡_, refl, sym, ap, _∙_}
 use mathlib.Core.List.{List, [], _∷_, _++_}
+use lib.ListN.{length, length-append}
 use Rattle.storage_model.specs.Limits.{mostWrites, mostBarriers}
 use Rattle.storage_model.specs.Trace.{Step, acceptWrite, acceptBarrier, propagateWrite, propagateBarrier, commit, respond, acknowledge, writesOf, barriersOf, writesIn, barriersIn}
+use Rattle.storage_model.specs.Subsystem.{State, writesSeen, barriersSeen, effect}
 use Rattle.storage_model.specs.Fits.{StepFits}
 
 pub writes-grown : (before : List Step) (x : Step) → writesIn (before ++ (x ∷ [])) ≡ writesIn before + writesOf x
@@ -19,6 +21,17 @@ unfolding barriersIn
 barriers-grown [] x = omega arith
 barriers-grown (y ∷ before) x =
     ap (λ (i : ℕ). barriersOf y + i) (barriers-grown before x) ∙ sym (add-assoc (barriersOf y) (barriersIn before) (barriersOf x))
+
+-- how many writes and barriers are seen after a step
+pub seen-step : (s : State) (x : Step) → (writesSeen (effect s x) ≡ writesSeen s + writesOf x) × (barriersSeen (effect s x) ≡ barriersSeen s + barriersOf x)
+unfolding effect
+seen-step s (acceptWrite t a v) = (length-append (s .writes) _, omega arith)
+seen-step s (acceptBarrier t c) = (omega arith, length-append (s .barriers) _)
+seen-step s (propagateWrite w t) = (omega arith, omega arith)
+seen-step s (propagateBarrier b t) = (omega arith, omega arith)
+seen-step s (commit x y) = (omega arith, omega arith)
+seen-step s (respond t a v) = (omega arith, omega arith)
+seen-step s (acknowledge b) = (omega arith, omega arith)
 
 -- no more than there may be
 pub few-writes : (n m w b : ℕ) (x : Step) → StepFits n m w b x → w ≤ mostWrites → w + writesOf x ≤ mostWrites

@@ -5,4 +5,7 @@ pub mod Failing
 pub mod Sound
 pub mod Within
 pub mod Coherence
+pub mod Run
 pub mod Running
+pub mod Acknowledged
+pub mod Short

@@ -17,7 +17,7 @@ use borrow.Author.Tests.{eq-eqb, eqb-true, not-true}
 use Rattle.finite.specs.Tests.{_⇒_}
 use Rattle.finite.proofs.Tests.{and-l, and-r, and-i, or-l, or-r, or-e, imp-e, all-get, is-false}
 use Rattle.storage_model.specs.Limits.{mostWrites}
-use Rattle.storage_model.specs.Trace.{Step, acceptWrite, acceptBarrier, propagateWrite, propagateBarrier, commit, respond, acknowledge, sync, lwsync, writesOf, barriersOf}
+use Rattle.storage_model.specs.Trace.{Step, acceptWrite, acceptBarrier, propagateWrite, propagateBarrier, commit, respond, acknowledge, sync}
 use Rattle.storage_model.specs.Relation.{Relation, related, closure}
 use Rattle.storage_model.specs.Subsystem.{State, Write, Barrier, Event, write, barrier, same, member, precedes, noWrite, noBarrier, address, class, events, arrived, coherent, separated, writesSeen, barriersSeen, writeIsNew, writeIsAfter, barriersWentBefore, barrierIsNew, groupAWentBefore, committed, toOneAddress, unrelated, acyclicWith, unacknowledgedSync, everywhere, enabled, appended, followed, effect, initial}
 use Rattle.storage_model.specs.Fits.{StepFits}
@@ -456,17 +456,6 @@ sound-step n m s S (propagateBarrier b t) F on = sound-propagate-barrier s S b t
 sound-step n m s S (commit x y) F on = sound-commit s S x y on
 sound-step n m s S (respond t a v) F on = unfold effect in S
 sound-step n m s S (acknowledge b) F on = sound-acknowledge s S b
-
--- how many writes and barriers are seen after a step
-pub seen-step : (s : State) (x : Step) → (writesSeen (effect s x) ≡ writesSeen s + writesOf x) × (barriersSeen (effect s x) ≡ barriersSeen s + barriersOf x)
-unfolding effect
-seen-step s (acceptWrite t a v) = (length-append (s .writes) _, omega arith)
-seen-step s (acceptBarrier t c) = (omega arith, length-append (s .barriers) _)
-seen-step s (propagateWrite w t) = (omega arith, omega arith)
-seen-step s (propagateBarrier b t) = (omega arith, omega arith)
-seen-step s (commit x y) = (omega arith, omega arith)
-seen-step s (respond t a v) = (omega arith, omega arith)
-seen-step s (acknowledge b) = (omega arith, omega arith)
 
 -- before the first step no list holds anything
 no-events : (n t : ℕ) → _≡_ {A = List Event} (getD (replicate n []) t []) []

@@ -63,6 +63,17 @@ within-step s W (respond t a v) F = W
 within-step s W (acknowledge b) F =
     kept s W (s .writes) (s .coherence) (s .barriers) (s .propagated) _ (W .few-writes) (W .writes) (W .coherence) (W .few-barriers) (W .barriers) refl
 
+-- a step leaves the threads and the initial values
+pub limits-stay : (s : State) (x : Step) → (effect s x .threads ≡ s .threads) × (effect s x .initials ≡ s .initials)
+unfolding effect
+limits-stay s (acceptWrite t a v) = (refl, refl)
+limits-stay s (acceptBarrier t c) = (refl, refl)
+limits-stay s (propagateWrite w t) = (refl, refl)
+limits-stay s (propagateBarrier b t) = (refl, refl)
+limits-stay s (commit x y) = (refl, refl)
+limits-stay s (respond t a v) = (refl, refl)
+limits-stay s (acknowledge b) = (refl, refl)
+
 pub within-initial : (n : ℕ) (initials : List ℕ) → n ≤ mostThreads → length initials ≤ mostAddresses → All (λ v. v ≤ mostValue) initials → Within (initial n initials)
 unfolding initial relation table
 within-initial n initials hn hm hv = record {

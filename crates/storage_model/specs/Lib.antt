@@ -7,5 +7,6 @@ pub mod Written
 pub mod Bound
 pub mod Fits
 pub mod Sound
+pub mod Runs
 pub mod Answers
 pub mod Worked
