@@ -9,3 +9,6 @@ pub mod Run
 pub mod Running
 pub mod Acknowledged
 pub mod Short
+pub mod ReadBack
+pub mod Exact
+pub mod Refusals

@@ -49,17 +49,20 @@ says i s (x ∷ xs) = by (enabled s x) refl (says (suc i) (effect s x) xs)
     by : (b : Bool) → enabled s x ≡ b → Says (suc i) (effect s x) xs (runFrom (suc i) (effect s x) xs)
         → Says i s (x ∷ xs) (cond b (runFrom (suc i) (effect s x) xs) (refused i (failing s x)))
     by true p h = more p (runFrom (suc i) (effect s x) xs) h
-    by false p h = (omega arith, record {
-      before = [];
-      step = x;
-      behind = xs;
-      parts = refl;
-      place = omega arith;
-      state = s;
-      enabled-before = refl;
-      not-enabled = p;
-      condition = refl;
-    })
+    by false p h = (
+      omega arith,
+      record {
+        before = [];
+        step = x;
+        behind = xs;
+        parts = refl;
+        place = omega arith;
+        state = s;
+        enabled-before = refl;
+        not-enabled = p;
+        condition = refl;
+      },
+    )
 
 -- through steps that are enabled
 through : (i : ℕ) (s : State) (xs ys : List Step) (e : State) → Enabled s xs e → runFrom i s (xs ++ ys) ≡ runFrom (i + length xs) e ys

@@ -15,7 +15,6 @@ use Rattle.storage_model.specs.Subsystem.{State, Event, write, barrier, same, m
 use Rattle.storage_model.specs.Sound.{Sound, Listed}
 use Rattle.storage_laws.proofs.Lists.{same-refl}
 
-
 -- one number more passes
 count-with : (n v : ℕ) (p : ℕ → Bool) → v < n → p v ≡ false → count n (λ w. eqb w v || p w) ≡ suc (count n p)
 unfolding count
