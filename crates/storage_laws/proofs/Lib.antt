@@ -12,3 +12,4 @@ pub mod Short
 pub mod ReadBack
 pub mod Exact
 pub mod Refusals
+pub mod Bound
