@@ -10,6 +10,7 @@ use mathlib.Core.Logic.{_↔_}
 use mathlib.Core.List.{List, [], _∷_, _++_}
 use lib.Dec.{lit<, lit≤, ltb, eqb}
 use lib.ListN.{length, take, drop}
+use lib.Seq.{take-at}
 use borrow.Author.Tests.{ltb-true}
 use Rattle.finite.specs.Tests.{_⇒_}
 use Rattle.finite.specs.Lists.{each}
@@ -134,10 +135,12 @@ readable-iff s h t i = (
   λ r. ap readTrace (r .1) ∙ read-back t (r .0) (drop i s) ∙ ap (next t) (sym (r .2)),
 )
 
--- a refusal's place is within the bytes, and under 2 a number has a wrong form there
-pub malformed : (s : List ℕ) → Bytes s → (x p : ℕ) → readTrace s ≡ stop x p → Malformed s x p
-unfolding readTrace
-malformed s h x p e = rw e at (exact-trace .run s 0 h (omega arith))
+-- a trace is read by its bytes alone, whatever lies behind them
+pub read-front : (s : List ℕ) → Bytes s → (t : Trace) (i : ℕ) → readTrace s ≡ next t i → (rest : List ℕ) → readTrace (take i s ++ rest) ≡ next t i
+read-front s h t i e rest =
+    let r = readable-iff s h t i .0 e in
+    let front : take i s ≡ traceBytes t = ap (take i) (r .1) ∙ take-at (traceBytes t) (drop i s) i (sym (r .2)) in
+    rw front (read-back t (r .0) rest ∙ ap (next t) (sym (r .2)))
 
 -- traces with the same bytes are the same
 pub bytes-injective : (t u : Trace) → Fits t → Fits u → traceBytes t ≡ traceBytes u → t ≡ u

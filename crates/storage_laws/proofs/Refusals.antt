@@ -1,105 +1,136 @@
--- A trace's bytes are refused "with 1 to 3 as for records" (02 (ii)).
+-- A trace's bytes are refused "with 1 to 3 as for records" (02 (ii)), at a place within them; what lies behind changes no refusal but 1.
 -- Assumes nothing.
-use Prim.Native.Nat.{ℕ, zero, suc, _≤_}
-use mathlib.Core.Path.{_≡_, refl}
+use Prim.Native.Nat.{ℕ, zero, suc, _+_, _≤_}
+use native.Mathlib.Omega.{arith}
+use mathlib.Core.Path.{_≡_, refl, ap, _∙_}
 use mathlib.Core.Bool.{Bool, true, false, cond}
-use lib.Dec.{lit≤, ltb, eqb}
 use mathlib.Core.List.{List, [], _∷_, _++_}
+use lib.Dec.{lit≤, ltb, eqb}
 use lib.ListN.{length, drop}
-use Rattle.number.specs.Number.{Raw, got, short, wrong, readGroups, finish, readNumber, groups, Bytes}
-use Rattle.number.specs.Reader.{Out, stop, next, Reader, give, _>>=_, onward, unless, tested, turns, another, times, upTo, within, below, under, numberOut}
+use Rattle.number.specs.Number.{Raw, got, short, wrong, readGroups, finish, readNumber, groups, size}
+use Rattle.number.specs.Reader.{Out, stop, next, Reader, give, _>>=_, onward, unless, tested, turns, times, upTo, within, below, under, numberOut}
 use Rattle.number.specs.declared.NumberRead.the-variants as the
-use Rattle.number.proofs.Forms.{WrongForm}
-use Rattle.storage_model.specs.Trace.{Trace, Step}
+use Rattle.number.proofs.Forms.{WrongForm, wrong-form}
+use Rattle.codec.proofs.Extent.{Looks, further, split-all, extent-up-to}
 use Rattle.storage_model.specs.Layout.{acceptWriteFields, acceptBarrierFields, propagateWriteFields, propagateBarrierFields, commitFields, respondFields, acknowledgeFields, fields, roomFor, step, trace, readTrace}
-use Rattle.storage_laws.proofs.Exact.{malformed}
 
-abbrev Few : {A : Type 0} → Out A → Type 0
-Few (stop x p) = (1 ≤ x) × (x ≤ 3)
-Few (next a p) = Unit {0}
+-- 1 to 3, within the bytes; under 2 the number there has a wrong form
+abbrev OneToThree : List ℕ → (x p : ℕ) → Type 0
+OneToThree s x p = (1 ≤ x) × (x ≤ 3) × (p ≤ length s) × (x ≡ 2 → WrongForm s p)
 
-record Simple {A : Type 0} (r : Reader A) : Type 0 where
-  run : (s : List ℕ) (at : ℕ) → Few (r s at)
+-- what r answered stays when bytes follow, unless they ended
+abbrev Stays : {A : Type 0} → Reader A → List ℕ → ℕ → Out A → Type 0
+Stays r s at (stop x p) = OneToThree s x p × ((x ≡ 1 → ⊥) → (t : List ℕ) → r (s ++ t) at ≡ stop x p)
+Stays r s at (next a p) = (p ≤ length s) × ((t : List ℕ) → r (s ++ t) at ≡ next a p)
 
-simple-give : {A : Type 0} (a : A) → Simple (give a)
-simple-give a = record { run = λ s at. tt }
+record Steady {A : Type 0} (r : Reader A) : Type 0 where
+  run : (s : List ℕ) (at : ℕ) → at ≤ length s → Stays r s at (r s at)
 
-simple-bind : {A B : Type 0} {r : Reader A} {f : A → Reader B} → Simple r → ((a : A) → Simple (f a)) → Simple (r >>= f)
-simple-bind {A} {B} {r} {f} p q = record { run = λ s at. go s (r s at) (p .run s at) }
+steady-give : {A : Type 0} (a : A) → Steady (give a)
+steady-give a = record { run = λ s at l. (l, λ t. refl) }
+
+steady-bind : {A B : Type 0} {r : Reader A} {f : A → Reader B} → Steady r → ((a : A) → Steady (f a)) → Steady (r >>= f)
+steady-bind {A} {B} {r} {f} p q = record { run = λ s at l. go s at (r s at) (p .run s at l) }
   where
-    go : (s : List ℕ) (o : Out A) → Few o → Few (onward (λ a p. f a s p) o)
-    go s (stop x y) h = h
-    go s (next a y) h = q a .run s y
+    go : (s : List ℕ) (at : ℕ) (o : Out A) → Stays r s at o → Stays (r >>= f) s at (onward (λ a p. f a s p) o)
+    go s at (stop x y) h = (h .0, λ n t. ap (onward (λ a p. f a (s ++ t) p)) (h .1 n t))
+    go s at (next a y) h = behind (f a s y) (q a .run s y (h .0))
+      where
+        behind : (o : Out B) → Stays (f a) s y o → Stays (r >>= f) s at o
+        behind (stop x z) g = (g .0, λ n t. ap (onward (λ a p. f a (s ++ t) p)) (h .1 t) ∙ g .1 n t)
+        behind (next b z) g = (g .0, λ t. ap (onward (λ a p. f a (s ++ t) p)) (h .1 t) ∙ g .1 t)
 
-simple-unless : {A : Type 0} (test : A → Bool) {r : Reader A} → Simple r → Simple (unless 3 test r)
+-- the last of a do block
+steady-last : {A B : Type 0} {r : Reader A} (f : A → B) → Steady r → Steady (r >>= λ x. give (f x))
+steady-last f p = steady-bind p (λ a. steady-give (f a))
+
+steady-unless : {A : Type 0} (test : A → Bool) {r : Reader A} → Steady r → Steady (unless 3 test r)
 unfolding unless
-simple-unless {A} test {r} p = record { run = λ s at. go at (r s at) (p .run s at) }
+steady-unless {A} test {r} p = record { run = λ s at l. go s at l (r s at) (p .run s at l) }
   where
-    passed : (at : ℕ) (a : A) (y : ℕ) (b : Bool) → Few (cond b (next a y) (stop 3 at))
-    passed at a y true = tt
-    passed at a y false = (lit≤ tt, lit≤ tt)
+    go : (s : List ℕ) (at : ℕ) → at ≤ length s → (o : Out A) → Stays r s at o → Stays (unless 3 test r) s at (tested 3 test at o)
+    go s at l (stop x y) h = (h .0, λ n t. ap (tested 3 test at) (h .1 n t))
+    go s at l (next a y) h = by (test a) refl
+      where
+        by : (b : Bool) → test a ≡ b → Stays (unless 3 test r) s at (cond b (next a y) (stop 3 at))
+        by true e = (h .0, λ t. ap (tested 3 test at) (h .1 t) ∙ rw e)
+        by false e = ((lit≤ tt, lit≤ tt, l, λ e. absurd (omega arith)), λ _ t. ap (tested 3 test at) (h .1 t) ∙ rw e)
 
-    go : (at : ℕ) (o : Out A) → Few o → Few (tested 3 test at o)
-    go at (stop x y) h = h
-    go at (next a y) h = passed at a y (test a)
+-- what a number is refused with
+abbrev Wrong : List ℕ → Out ℕ → Type 0
+Wrong s (stop x p) = OneToThree s x p
+Wrong s (next v p) = Unit {0}
 
-simple-up-to : (hi : ℕ) → Simple (upTo hi)
-unfolding upTo readNumber finish
-simple-up-to hi = record { run = λ s at. go at (readGroups groups 0 (drop at s)) }
+number-wrong : (s : List ℕ) (at hi : ℕ) → at ≤ length s → (r : Raw) → (r ≡ wrong → WrongForm s at) → Wrong s (numberOut (finish at hi r))
+unfolding finish
+number-wrong s at hi l short f = (lit≤ tt, lit≤ tt, l, λ e. absurd (omega arith))
+number-wrong s at hi l wrong f = (lit≤ tt, lit≤ tt, l, λ e. f refl)
+number-wrong s at hi l (got w j) f = small (ltb hi w)
   where
-    small : (at w j : ℕ) (b : Bool) → Few (numberOut (cond b (the.Refused 3 at) (the.Number w j)))
-    small at w j true = (lit≤ tt, lit≤ tt)
-    small at w j false = tt
+    small : (b : Bool) → Wrong s (numberOut (cond b (the.Refused 3 at) (the.Number w (at + j))))
+    small true = (lit≤ tt, lit≤ tt, l, λ e. absurd (omega arith))
+    small false = tt
 
-    go : (at : ℕ) (r : Raw) → Few (numberOut (finish at hi r))
-    go at short = (lit≤ tt, lit≤ tt)
-    go at wrong = (lit≤ tt, lit≤ tt)
-    go at (got w j) = small at w _ (ltb hi w)
+steady-up-to : (hi : ℕ) → Steady (upTo hi)
+steady-up-to hi = record { run = λ s at l. go s at (upTo hi s at) (extent-up-to hi .run s at l) (unfold upTo readNumber in number-wrong s at hi l (readGroups groups 0 (drop at s)) (wrong-form s at)) }
+  where
+    go : (s : List ℕ) (at : ℕ) (o : Out ℕ) → Looks (upTo hi) (size hi) (size hi + further) (λ v. v ≤ hi) s at o → Wrong s o → Stays (upTo hi) s at o
+    go s at (stop x p) S w = (w, S .stays)
+    go s at (next v p) T w = (T .inside, λ t. ap (λ (z : List ℕ). upTo hi z at) (split-all p s t) ∙ T .front (drop p s ++ t))
 
-simple-within : (lo hi : ℕ) → Simple (within lo hi)
+steady-within : (lo hi : ℕ) → Steady (within lo hi)
 unfolding within
-simple-within lo hi = simple-unless _ (simple-up-to hi)
+steady-within lo hi = steady-unless _ (steady-up-to hi)
 
-simple-below : (b : ℕ) → Simple (below b)
+steady-below : (b : ℕ) → Steady (below b)
 unfolding below
-simple-below b = simple-up-to _
+steady-below b = steady-up-to _
 
-simple-under : (b : ℕ) → Simple (under b)
+steady-under : (b : ℕ) → Steady (under b)
 unfolding under
-simple-under b = simple-unless _ (simple-up-to b)
+steady-under b = steady-unless _ (steady-up-to b)
 
-simple-turns : {A : Type 0} (i : ℕ) (f : A → Reader A) → ((a : A) → Simple (f a)) → (a : A) → Simple (turns i f a)
+steady-turns : {A : Type 0} (i : ℕ) (f : A → Reader A) → ((a : A) → Steady (f a)) → (a : A) → Steady (turns i f a)
 unfolding turns
-simple-turns zero f h a = simple-give a
-simple-turns (suc i) f h a = simple-bind (h a) (λ b. simple-turns i f h b)
+steady-turns zero f h a = steady-give a
+steady-turns (suc i) f h a = steady-bind (h a) (λ b. steady-turns i f h b)
 
-simple-if : {A : Type 0} (b : Bool) {r r′ : Reader A} → Simple r → Simple r′ → Simple (cond b r r′)
-simple-if true p q = p
-simple-if false p q = q
+steady-if : {A : Type 0} (b : Bool) {r r′ : Reader A} → Steady r → Steady r′ → Steady (cond b r r′)
+steady-if true p q = p
+steady-if false p q = q
 
-simple-step : (n m w b : ℕ) → Simple (step n m w b)
+-- ---- a trace
+
+steady-step : (n m w b : ℕ) → Steady (step n m w b)
 unfolding step fields acceptWriteFields acceptBarrierFields propagateWriteFields propagateBarrierFields commitFields respondFields acknowledgeFields
-simple-step n m w b =
-    simple-bind (simple-unless (roomFor w b) (simple-within _ _)) (λ kind.
-    simple-if (eqb kind 1) (simple-bind (simple-below n) (λ _. simple-bind (simple-below m) (λ _. simple-bind (simple-up-to _) (λ _. simple-give _))))
-    (simple-if (eqb kind 2) (simple-bind (simple-below n) (λ _. simple-bind (simple-up-to _) (λ _. simple-give _)))
-    (simple-if (eqb kind 3) (simple-bind (simple-under w) (λ _. simple-bind (simple-below n) (λ _. simple-give _)))
-    (simple-if (eqb kind 4) (simple-bind (simple-under b) (λ _. simple-bind (simple-below n) (λ _. simple-give _)))
-    (simple-if (eqb kind 5) (simple-bind (simple-under w) (λ _. simple-bind (simple-under w) (λ _. simple-give _)))
-    (simple-if (eqb kind 6) (simple-bind (simple-below n) (λ _. simple-bind (simple-below m) (λ _. simple-bind (simple-up-to _) (λ _. simple-give _))))
-    (simple-bind (simple-under b) (λ _. simple-give _))))))))
+steady-step n m w b =
+    steady-bind (steady-unless (roomFor w b) (steady-within _ _)) (λ kind.
+    steady-if (eqb kind 1) (steady-bind (steady-below n) (λ _. steady-bind (steady-below m) (λ _. steady-last _ (steady-up-to _))))
+    (steady-if (eqb kind 2) (steady-bind (steady-below n) (λ _. steady-last _ (steady-up-to _)))
+    (steady-if (eqb kind 3) (steady-bind (steady-under w) (λ _. steady-last _ (steady-below n)))
+    (steady-if (eqb kind 4) (steady-bind (steady-under b) (λ _. steady-last _ (steady-below n)))
+    (steady-if (eqb kind 5) (steady-bind (steady-under w) (λ _. steady-last _ (steady-under w)))
+    (steady-if (eqb kind 6) (steady-bind (steady-below n) (λ _. steady-bind (steady-below m) (λ _. steady-last _ (steady-up-to _))))
+    (steady-last _ (steady-under b))))))))
 
-simple-trace : Simple trace
+steady-trace : Steady trace
 unfolding trace times
-simple-trace =
-    simple-bind (simple-within _ _) (λ n. simple-bind (simple-within _ _) (λ m.
-    simple-bind (simple-turns m _ (λ _. simple-bind (simple-up-to _) (λ _. simple-give _)) []) (λ _.
-    simple-bind (simple-up-to _) (λ i.
-    simple-bind (simple-turns i _ (λ _. simple-bind (simple-step n m _ _) (λ _. simple-give _)) []) (λ _. simple-give _)))))
+steady-trace =
+    steady-bind (steady-within _ _) (λ n.
+    steady-bind (steady-within _ _) (λ m.
+    steady-bind (steady-turns m _ (λ _. steady-last _ (steady-up-to _)) []) (λ _.
+    steady-bind (steady-up-to _) (λ i.
+    steady-last _ (steady-turns i _ (λ _. steady-last _ (steady-step n m _ _)) [])))))
 
-pub refused-1-to-3 : (s : List ℕ) → Bytes s → (x p : ℕ) → readTrace s ≡ stop x p → (1 ≤ x) × (x ≤ 3) × (p ≤ length s) × (x ≡ 2 → WrongForm s p)
+stays : (s : List ℕ) (x p : ℕ) → readTrace s ≡ stop x p → Stays trace s 0 (stop x p)
 unfolding readTrace
-refused-1-to-3 s h x p e =
-    let few : (1 ≤ x) × (x ≤ 3) = rw e at (simple-trace .run s 0) in
-    let M = malformed s h x p e in
-    (few .0, few .1, M .within, M .form)
+stays s x p e = rw e at (steady-trace .run s 0 (omega arith))
+
+-- under 2 the number there has a wrong form
+pub refused-1-to-3 : (s : List ℕ) (x p : ℕ) → readTrace s ≡ stop x p → (1 ≤ x) × (x ≤ 3) × (p ≤ length s) × (x ≡ 2 → WrongForm s p)
+refused-1-to-3 s x p e = stays s x p e .0
+
+-- a refusal other than 1 stays when further bytes follow
+pub refusal-stays : (s : List ℕ) (x p : ℕ) → readTrace s ≡ stop x p → (x ≡ 1 → ⊥) → (t : List ℕ) → readTrace (s ++ t) ≡ stop x p
+unfolding readTrace
+refusal-stays s x p e = stays s x p e .1
