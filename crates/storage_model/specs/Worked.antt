@@ -122,6 +122,8 @@ conditionCases =
     refuses 6 2 3 1 (0 ∷ []) (acceptWrite 0 0 1 ∷ acceptWrite 1 0 2 ∷ acceptWrite 2 0 3 ∷ commit 0 1 ∷ propagateWrite 1 0 ∷ commit 0 2 ∷ propagateWrite 2 0 ∷ []) ∷
     -- 3: a barrier before it in the list of its own thread is not there
     refuses 2 3 2 1 (0 ∷ []) (acceptBarrier 0 1 ∷ acceptWrite 0 0 1 ∷ propagateWrite 0 1 ∷ []) ∷
+    -- 2 and 3 fail: the first of the two
+    refuses 3 2 2 1 (0 ∷ []) (acceptBarrier 0 1 ∷ acceptWrite 0 0 1 ∷ acceptWrite 1 0 2 ∷ propagateWrite 0 1 ∷ []) ∷
     -- a barrier behind it does not matter
     accepts 2 1 (0 ∷ []) (acceptWrite 0 0 1 ∷ acceptBarrier 0 1 ∷ propagateWrite 0 1 ∷ []) ∷
     -- nor one in the list of the other thread, which is of its own
@@ -150,6 +152,8 @@ conditionCases =
     refuses 4 2 2 2 (0 ∷ 0 ∷ []) (acceptWrite 0 0 1 ∷ acceptWrite 0 1 1 ∷ acceptBarrier 0 1 ∷ propagateWrite 0 1 ∷ propagateBarrier 0 1 ∷ []) ∷
     -- commit: two addresses
     refuses 2 1 2 2 (0 ∷ 0 ∷ []) (acceptWrite 0 0 1 ∷ acceptWrite 1 1 2 ∷ commit 0 1 ∷ []) ∷
+    -- two addresses, and a cycle: the first of the two
+    refuses 3 1 1 2 (0 ∷ 0 ∷ []) (acceptWrite 0 0 1 ∷ acceptBarrier 0 1 ∷ acceptWrite 0 1 1 ∷ commit 1 0 ∷ []) ∷
     -- a write before itself
     refuses 1 3 2 1 (0 ∷ []) (acceptWrite 0 0 1 ∷ commit 0 0 ∷ []) ∷
     -- twice
@@ -198,6 +202,8 @@ conditionCases =
     accepts 3 1 (0 ∷ []) (acceptBarrier 0 0 ∷ propagateBarrier 0 1 ∷ propagateBarrier 0 2 ∷ acknowledge 0 ∷ []) ∷
     -- an lwsync
     refuses 1 1 1 1 (0 ∷ []) (acceptBarrier 0 1 ∷ acknowledge 0 ∷ []) ∷
+    -- one that is not at every thread either: the first of the two
+    refuses 1 1 2 1 (0 ∷ []) (acceptBarrier 0 1 ∷ acknowledge 0 ∷ []) ∷
     -- a sync again
     refuses 2 1 1 1 (0 ∷ []) (acceptBarrier 0 0 ∷ acknowledge 0 ∷ acknowledge 0 ∷ []) ∷
     -- another sync
