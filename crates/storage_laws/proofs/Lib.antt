@@ -2,6 +2,7 @@ pub mod Relations
 pub mod Lists
 pub mod Counts
 pub mod Failing
+pub mod Listed
 pub mod Sound
 pub mod Within
 pub mod Coherence

@@ -23,95 +23,7 @@ use Rattle.storage_model.specs.Subsystem.{State, Write, Barrier, Event, write, 
 use Rattle.storage_model.specs.Fits.{StepFits}
 use Rattle.storage_model.specs.Sound.{Ordered, Listed, Syncs, Sound}
 use Rattle.storage_laws.proofs.Relations.{closure-within, closure-holds, closure-transitive, closure-least, acyclic-is}
-use Rattle.storage_laws.proofs.Lists.{same-refl, same-is, member-append, precedes-append, appended-at}
-
--- ---- lists
-
--- t has all that s has
-record Grows (s t : State) : Type 0 where
-  coherence : (a b : ℕ) → coherent s a b ≡ true → coherent t a b ≡ true
-  addresses : (w : ℕ) → w < writesSeen s → address t w ≡ address s w
-  writes : writesSeen s ≤ writesSeen t
-  barriers : barriersSeen s ≤ barriersSeen t
-
-precedes-members : (e f : Event) (l : List Event) → precedes e f l ≡ true → (member e l ≡ true) × (member f l ≡ true)
-unfolding precedes member
-precedes-members e f [] h = absurd (false≢true h)
-precedes-members e f (x ∷ l) h = by (precedes-members e f l)
-  where
-    by : (precedes e f l ≡ true → (member e l ≡ true) × (member f l ≡ true)) → ((same e x || member e l) ≡ true) × ((same f x || member f l) ≡ true)
-    by ih =
-        or-e (same e x && member f l) (precedes e f l)
-        (λ t. (or-l (same e x) (member e l) (and-l (same e x) (member f l) t), or-r (same f x) (member f l) (and-r (same e x) (member f l) t)))
-        (λ t. (or-r (same e x) (member e l) (ih t .0), or-r (same f x) (member f l) (ih t .1))) h
-
-listed-more : (s t : State) (l : List Event) → Grows s t → Listed s l → Listed t l
-listed-more s t l G L = record {
-  in-order = λ a b h e.
-      let m = precedes-members (write a) (write b) l h in
-      G .coherence a b (L .in-order a b h (sym (G .addresses a (L .writes a (m .0))) ∙ e ∙ G .addresses b (L .writes b (m .1))));
-  once = L .once;
-  writes = λ w h. omega (arith, L .writes w h, G .writes);
-  barriers = λ b h. omega (arith, L .barriers b h, G .barriers);
-}
-
--- a list with e at its end, where e is not yet in it
-module _ (s : State) (l : List Event) (e : Event) (L : Listed s l) (new : member e l ≡ false) where
-  once-append : (f : Event) → precedes f f (l ++ (e ∷ [])) ≡ true → ⊥
-  once-append f h =
-      or-e (precedes f f l) (member f l && same f e) (L .once f)
-      (λ t.
-      let p : f ≡ e = same-is f e (and-r (member f l) (same f e) t) in
-      true≢false (sym (and-l (member f l) (same f e) t) ∙ ap (λ (z : Event). member z l) p ∙ new))
-      (sym (precedes-append f f l e) ∙ h)
-
-  append-either : (f : Event) → member f (l ++ (e ∷ [])) ≡ true → (member f l ≡ true) ⊎ (f ≡ e)
-  append-either f h = or-e (member f l) (same f e) inl (λ t. inr (same-is f e t)) (sym (member-append f l e) ∙ h)
-
-  order-append : ((a b : ℕ) → member (write a) l ≡ true → write b ≡ e → address s a ≡ address s b → coherent s a b ≡ true)
-      → (a b : ℕ) → precedes (write a) (write b) (l ++ (e ∷ [])) ≡ true → address s a ≡ address s b → coherent s a b ≡ true
-  order-append after a b h same-address =
-      or-e (precedes (write a) (write b) l) (member (write a) l && same (write b) e) (λ t. L .in-order a b t same-address)
-      (λ t. after a b (and-l (member (write a) l) (same (write b) e) t) (same-is (write b) e (and-r (member (write a) l) (same (write b) e) t)) same-address)
-      (sym (precedes-append (write a) (write b) l e) ∙ h)
-
-write-is : (a b : ℕ) → write a ≡ write b → a ≡ b
-write-is a b e = eqb-true a b (unfold same in (ap (same (write a)) (sym e) ∙ same-refl (write a)))
-
-barrier-is : (a b : ℕ) → barrier a ≡ barrier b → a ≡ b
-barrier-is a b e = eqb-true a b (unfold same in (ap (same (barrier a)) (sym e) ∙ same-refl (barrier a)))
-
-write-no-barrier : (a b : ℕ) → write a ≡ barrier b → ⊥
-write-no-barrier a b e = false≢true (unfold same in (ap (same (write a)) (sym e) ∙ same-refl (write a)))
-
-listed-write : (s : State) (l : List Event) (w : ℕ) → Listed s l → member (write w) l ≡ false → w < writesSeen s
-    → ((v : ℕ) → member (write v) l ≡ true → address s v ≡ address s w → coherent s v w ≡ true) → Listed s (l ++ (write w ∷ []))
-listed-write s l w L new low after = record {
-  in-order = order-append s l (write w) L new
-      (λ a b m e same-address.
-      let p : b ≡ w = write-is b w e in
-      subst (λ (z : ℕ). coherent s a z ≡ true) (sym p) (after a m (same-address ∙ ap (address s) p)));
-  once = once-append s l (write w) L new;
-  writes = λ v h. ⊎-elim (L .writes v) (λ e. subst (λ (z : ℕ). z < writesSeen s) (sym (write-is v w e)) low) (append-either s l (write w) L new (write v) h);
-  barriers = λ b h. ⊎-elim (L .barriers b) (λ e. absurd (write-no-barrier w b (sym e))) (append-either s l (write w) L new (barrier b) h);
-}
-
-listed-barrier : (s : State) (l : List Event) (b : ℕ) → Listed s l → member (barrier b) l ≡ false → b < barriersSeen s → Listed s (l ++ (barrier b ∷ []))
-listed-barrier s l b L new low = record {
-  in-order = order-append s l (barrier b) L new (λ a w m e same-address. absurd (write-no-barrier w b e));
-  once = once-append s l (barrier b) L new;
-  writes = λ v h. ⊎-elim (L .writes v) (λ e. absurd (write-no-barrier v b e)) (append-either s l (barrier b) L new (write v) h);
-  barriers = λ c h. ⊎-elim (L .barriers c) (λ e. subst (λ (z : ℕ). z < barriersSeen s) (sym (barrier-is c b e)) low) (append-either s l (barrier b) L new (barrier c) h);
-}
-
--- every list, where e went to the end of thread t's
-lists-append : (s s′ : State) (t : ℕ) (e : Event) → s′ .propagated ≡ appended (s .propagated) t e → ((u : ℕ) → Listed s′ (events s u))
-    → Listed s′ (events s t ++ (e ∷ [])) → (u : ℕ) → Listed s′ (events s′ u)
-unfolding events
-lists-append s s′ t e p old new u =
-    subst (λ (z : List (List Event)). Listed s′ (getD z u [])) (sym p)
-    (⊎-elim (λ h. subst (λ (l : List Event). Listed s′ l) (sym h) (old u)) (λ h. subst (λ (l : List Event). Listed s′ l) (sym (h .1)) new)
-    (appended-at (s .propagated) t e u))
+use Rattle.storage_laws.proofs.Listed.{Grows, listed-more, listed-write, listed-barrier, lists-append}
 
 -- ---- the writes seen, with one more
 
@@ -128,6 +40,32 @@ module _ (s s′ : State) (x : Write) (p : s′ .writes ≡ s .writes ++ (x ∷ 
   unfolding address
   new-address =
       ap (λ (ws : List Write). getD ws (writesSeen s) noWrite .address) p ∙ ap (λ (y : Write). y .address) (getD-append-seam (s .writes) x [] noWrite)
+
+-- ---- what a step leaves
+
+-- t has the writes of s, related as in s
+ordered-stays : (s t : State) → t .writes ≡ s .writes → t .coherence ≡ s .coherence → Ordered s → Ordered t
+unfolding coherent address
+ordered-stays s t w c O = record {
+  transitive = λ x y z. rw c (O .transitive x y z);
+  irreflexive = λ x. rw c (O .irreflexive x);
+  one-address = λ x y. rw (c, w) (O .one-address x y);
+  seen = λ x y. rw (c, w) (O .seen x y);
+}
+
+grows-stays : (s t : State) → t .writes ≡ s .writes → t .coherence ≡ s .coherence → barriersSeen s ≤ barriersSeen t → Grows s t
+unfolding coherent address
+grows-stays s t w c l = record {
+  coherence = λ x y h. rw c h;
+  addresses = λ x _. rw w;
+  writes = rw w (le-refl _);
+  barriers = l;
+}
+
+-- t has the barriers of s, and as many of them are to be acknowledged
+syncs-stays : (s t : State) → t .barriers ≡ s .barriers → t .unacknowledged ≡ s .unacknowledged → Syncs s → Syncs t
+unfolding unacknowledgedSync class
+syncs-stays s t b u Y = record { as-many = rw (b, u) (Y .as-many); syncs = λ x. rw (b, u) (Y .syncs x) }
 
 -- ---- each step
 
@@ -234,7 +172,7 @@ module _ (s : State) (S : Sound s) where
       };
       lists = lists-append s s₁ t (write (writesSeen s)) (unfold effect in refl) (λ u. listed-more s s₁ (events s u) grows₁ (S .lists u))
           (listed-write s₁ (events s t) (writesSeen s) (listed-more s s₁ (events s t) grows₁ (S .lists t)) new-write (omega (arith, seen₁)) after₁);
-      syncs = unfold effect unacknowledgedSync class in record { as-many = S .syncs .as-many; syncs = S .syncs .syncs };
+      syncs = syncs-stays s s₁ (unfold effect in refl) (unfold effect in refl) (S .syncs);
     }
 
   -- accept a barrier
@@ -250,12 +188,7 @@ module _ (s : State) (S : Sound s) where
     seen₂ = length-append (s .barriers) (y₂ ∷ []) ∙ add-one (barriersSeen s)
 
     grows₂ : Grows s s₂
-    grows₂ = record {
-      coherence = λ y z h. unfold s₂ effect coherent in h;
-      addresses = λ w l. unfold s₂ effect address in refl;
-      writes = unfold s₂ effect in le-refl _;
-      barriers = omega (arith, seen₂);
-    }
+    grows₂ = grows-stays s s₂ (unfold s₂ effect in refl) (unfold s₂ effect in refl) (omega (arith, seen₂))
 
     new-barrier : member (barrier (barriersSeen s)) (events s t) ≡ false
     new-barrier = is-false (λ h. let l = S .lists t .barriers (barriersSeen s) h in omega (arith, l))
@@ -285,12 +218,7 @@ module _ (s : State) (S : Sound s) where
 
     pub sound-accept-barrier : Sound (effect s (acceptBarrier t c))
     sound-accept-barrier = unfold s₂ in record {
-      ordered = unfold effect coherent address in record {
-        transitive = S .ordered .transitive;
-        irreflexive = S .ordered .irreflexive;
-        one-address = S .ordered .one-address;
-        seen = S .ordered .seen;
-      };
+      ordered = ordered-stays s s₂ (unfold effect in refl) (unfold effect in refl) (S .ordered);
       lists = lists-append s s₂ t (barrier (barriersSeen s)) (unfold effect in refl) (λ u. listed-more s s₂ (events s u) grows₂ (S .lists u))
           (listed-barrier s₂ (events s t) (barriersSeen s) (listed-more s s₂ (events s t) grows₂ (S .lists t)) new-barrier (omega (arith, seen₂)));
       syncs = unfold effect unacknowledgedSync class in record {
@@ -299,11 +227,19 @@ module _ (s : State) (S : Sound s) where
       };
     }
 
+  -- e, propagated to thread t, is one more of its list, and all else stays
+  sound-propagate : (u : State) (t : ℕ) (e : Event) → u .writes ≡ s .writes → u .coherence ≡ s .coherence → u .barriers ≡ s .barriers
+      → u .unacknowledged ≡ s .unacknowledged → u .propagated ≡ appended (s .propagated) t e → Listed s (events s t ++ (e ∷ [])) → Sound u
+  sound-propagate u t e w c b a p L =
+      let G : Grows s u = grows-stays s u w c (rw b (le-refl _)) in
+      record {
+        ordered = ordered-stays s u w c (S .ordered);
+        lists = lists-append s u t e p (λ v. listed-more s u (events s v) G (S .lists v)) (listed-more s u (events s t ++ (e ∷ [])) G L);
+        syncs = syncs-stays s u b a (S .syncs);
+      }
+
   -- propagate a write
   module _ (w t : ℕ) (low : w < writesSeen s) (on : enabled s (propagateWrite w t) ≡ true) where
-    s₃ : State
-    s₃ = effect s (propagateWrite w t)
-
     conditions : (writeIsNew s w t ≡ true) × (writeIsAfter s w t ≡ true)
     unfolding enabled
     conditions = (
@@ -318,49 +254,18 @@ module _ (s : State) (S : Sound s) where
         (all-get (writesSeen s) (λ v. (arrived s (write v) t && eqb (address s v) (address s w)) ⇒ coherent s v w) (conditions .1) v (S .lists t .writes v m))
         (and-i (arrived s (write v) t) (eqb (address s v) (address s w)) m (eq-eqb (address s v) (address s w) e))
 
-    grows₃ : Grows s s₃
-    grows₃ = unfold s₃ effect coherent address in record { coherence = λ y z h. h; addresses = λ w l. refl; writes = le-refl _; barriers = le-refl _ }
-
-    here₃ : Listed s (events s t ++ (write w ∷ []))
-    here₃ = listed-write s (events s t) w (S .lists t) (unfold writeIsNew arrived in not-true _ (conditions .0)) low after₃
-
     pub sound-propagate-write : Sound (effect s (propagateWrite w t))
-    sound-propagate-write = unfold s₃ in record {
-      ordered = unfold effect coherent address in record {
-        transitive = S .ordered .transitive;
-        irreflexive = S .ordered .irreflexive;
-        one-address = S .ordered .one-address;
-        seen = S .ordered .seen;
-      };
-      lists = lists-append s s₃ t (write w) (unfold effect in refl) (λ u. listed-more s s₃ (events s u) grows₃ (S .lists u))
-          (listed-more s s₃ (events s t ++ (write w ∷ [])) grows₃ here₃);
-      syncs = unfold effect unacknowledgedSync class in record { as-many = S .syncs .as-many; syncs = S .syncs .syncs };
-    }
+    unfolding effect writeIsNew arrived
+    sound-propagate-write =
+        sound-propagate (effect s (propagateWrite w t)) t (write w) refl refl refl refl refl
+        (listed-write s (events s t) w (S .lists t) (not-true _ (conditions .0)) low after₃)
 
   -- propagate a barrier
-  module _ (b t : ℕ) (low : b < barriersSeen s) (on : enabled s (propagateBarrier b t) ≡ true) where
-    s₄ : State
-    s₄ = effect s (propagateBarrier b t)
-
-    grows₄ : Grows s s₄
-    grows₄ = unfold s₄ effect coherent address in record { coherence = λ y z h. h; addresses = λ w l. refl; writes = le-refl _; barriers = le-refl _ }
-
-    here₄ : Listed s (events s t ++ (barrier b ∷ []))
-    unfolding enabled barrierIsNew arrived
-    here₄ = listed-barrier s (events s t) b (S .lists t) (not-true _ (and-l (barrierIsNew s b t) (groupAWentBefore s b t) on)) low
-
-    pub sound-propagate-barrier : Sound (effect s (propagateBarrier b t))
-    sound-propagate-barrier = unfold s₄ in record {
-      ordered = unfold effect coherent address in record {
-        transitive = S .ordered .transitive;
-        irreflexive = S .ordered .irreflexive;
-        one-address = S .ordered .one-address;
-        seen = S .ordered .seen;
-      };
-      lists = lists-append s s₄ t (barrier b) (unfold effect in refl) (λ u. listed-more s s₄ (events s u) grows₄ (S .lists u))
-          (listed-more s s₄ (events s t ++ (barrier b ∷ [])) grows₄ here₄);
-      syncs = unfold effect unacknowledgedSync class in record { as-many = S .syncs .as-many; syncs = S .syncs .syncs };
-    }
+  pub sound-propagate-barrier : (b t : ℕ) → b < barriersSeen s → enabled s (propagateBarrier b t) ≡ true → Sound (effect s (propagateBarrier b t))
+  unfolding effect enabled barrierIsNew arrived
+  sound-propagate-barrier b t low on =
+      sound-propagate (effect s (propagateBarrier b t)) t (barrier b) refl refl refl refl refl
+      (listed-barrier s (events s t) b (S .lists t) (not-true _ (and-l (barrierIsNew s b t) (groupAWentBefore s b t) on)) low)
 
   -- commit one write before another
   module _ (x y : ℕ) (on : enabled s (commit x y) ≡ true) where
@@ -413,7 +318,7 @@ module _ (s : State) (S : Sound s) where
         seen = λ a b h. unfold effect in closure-within (writesSeen s) edges₅ a b (sym (co₅ a b) ∙ h);
       };
       lists = λ u. unfold effect events in listed-more s s₅ (events s u) grows₅ (S .lists u);
-      syncs = unfold effect unacknowledgedSync class in record { as-many = S .syncs .as-many; syncs = S .syncs .syncs };
+      syncs = syncs-stays s s₅ (unfold effect in refl) (unfold effect in refl) (S .syncs);
     }
 
   -- acknowledge a sync
@@ -422,7 +327,7 @@ module _ (s : State) (S : Sound s) where
     s₇ = effect s (acknowledge b)
 
     grows₇ : Grows s s₇
-    grows₇ = unfold s₇ effect coherent address in record { coherence = λ y z h. h; addresses = λ w l. refl; writes = le-refl _; barriers = le-refl _ }
+    grows₇ = grows-stays s s₇ (unfold s₇ effect in refl) (unfold s₇ effect in refl) (unfold s₇ effect in le-refl _)
 
     still : (c : ℕ) → getD (set (s .unacknowledged) b false) c false ≡ true → getD (s .unacknowledged) c false ≡ true
     still c h = by (ℕ-discrete c b) (decLt b (length (s .unacknowledged)))
@@ -434,12 +339,7 @@ module _ (s : State) (S : Sound s) where
 
     pub sound-acknowledge : Sound (effect s (acknowledge b))
     sound-acknowledge = unfold s₇ in record {
-      ordered = unfold effect coherent address in record {
-        transitive = S .ordered .transitive;
-        irreflexive = S .ordered .irreflexive;
-        one-address = S .ordered .one-address;
-        seen = S .ordered .seen;
-      };
+      ordered = ordered-stays s s₇ (unfold effect in refl) (unfold effect in refl) (S .ordered);
       lists = λ u. unfold effect events in listed-more s s₇ (events s u) grows₇ (S .lists u);
       syncs = unfold effect unacknowledgedSync class in record {
         as-many = length-set (s .unacknowledged) b false ∙ S .syncs .as-many;
