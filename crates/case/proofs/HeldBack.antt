@@ -36,11 +36,11 @@ pub record Holds (c : Case) : Type 0 where
   pub small : (p a : ℕ) → p < c .n → a < c .k → getD (getD (c .orders) p []) a 0 < 2 ^ c .k
 
 -- ---- lists back from tables
-back : {A : Type 0} (l : List A) (d : A) (j : ℕ) (f : ℕ → A) → length l ≡ j → ((i : ℕ) → i < j → f i ≡ getD l i d) → table 0 j f ≡ l
+pub back : {A : Type 0} (l : List A) (d : A) (j : ℕ) (f : ℕ → A) → length l ≡ j → ((i : ℕ) → i < j → f i ≡ getD l i d) → table 0 j f ≡ l
 back l d j f e h = table-same 0 j f (λ i. getD l i d) (λ i a b. h i (omega arith)) ∙ sym (as-table l d j e)
 
 -- a field of each event or dependency
-in-fields : {A : Type 0} (n : ℕ) (f : A → ℕ) (d : A) (es : List A) (e : ℕ) → e < length es → getD (pad n (map f es)) e 0 ≡ f (getD es e d)
+pub in-fields : {A : Type 0} (n : ℕ) (f : A → ℕ) (d : A) (es : List A) (e : ℕ) → e < length es → getD (pad n (map f es)) e 0 ≡ f (getD es e d)
 in-fields {A} n f d es e h = pad-get n (map f es) e (rw (length-map es f) h) ∙ at es e h
   where
     at : (es : List A) (e : ℕ) → e < length es → getD (map f es) e 0 ≡ f (getD es e d)
@@ -49,7 +49,7 @@ in-fields {A} n f d es e h = pad-get n (map f es) e (rw (length-map es f) h) ∙
     at (x ∷ es) (suc e) h = at es e (le-of-suc-le-suc h)
 
 -- row x of rows that have n places each
-in-rows : (n : ℕ) (rs : List (List ℕ)) (z : List ℕ) (x i : ℕ) → x < length rs → ((y : ℕ) → y < length rs → length (getD rs y []) ≤ n) → i < length (getD rs x [])
+pub in-rows : (n : ℕ) (rs : List (List ℕ)) (z : List ℕ) (x i : ℕ) → x < length rs → ((y : ℕ) → y < length rs → length (getD rs y []) ≤ n) → i < length (getD rs x [])
     → getD (rowsOf n rs ++ z) (x * n + i) 0 ≡ getD (getD rs x []) i 0
 unfolding rowsOf pad
 in-rows n [] z x i h b l = absurd (not-suc-le-zero h)

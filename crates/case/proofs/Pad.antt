@@ -26,7 +26,7 @@ pad-set n xs i v e h =
     let z : n - length xs ≡ suc (n - (length xs + 1)) = omega arith in
     simp (z, ← e, set-append-seam, length-append, append-assoc)
 
-map-snoc : {A : Type 0} (f : A → ℕ) (as′ : List A) (a : A) → map f (as′ ++ (a ∷ [])) ≡ map f as′ ++ (f a ∷ [])
+pub map-snoc : {A : Type 0} (f : A → ℕ) (as′ : List A) (a : A) → map f (as′ ++ (a ∷ [])) ≡ map f as′ ++ (f a ∷ [])
 map-snoc f [] a = refl
 map-snoc f (x ∷ as′) a = ap (λ (l : List ℕ). f x ∷ l) (map-snoc f as′ a)
 

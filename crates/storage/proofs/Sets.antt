@@ -4,12 +4,12 @@ use Prim.Native.Nat.{ℕ, zero, suc, _+_, _*_, _^_, _≤_, _<_}
 use native.Mathlib.Nat.{pow-suc, add-comm, zero-mul, add-zero, one-mul, lt-of-lt-of-le}
 use native.Mathlib.Numerals.{add-one}
 use native.Mathlib.Omega.{arith}
-use mathlib.Core.Path.{_≡_, refl, sym, ap, ap₂, _∙_, subst}
-use mathlib.Core.Bool.{Bool, true, false, _&&_, _||_}
-use lib.Dec.{eqb, ltb}
+use mathlib.Core.Path.{_≡_, refl, sym, ap, ap₂, _∙_}
+use mathlib.Core.Bool.{Bool, true, false, _&&_}
+use lib.Dec.{ltb}
 use lib.Bits.{bitOr, or-shifted-r}
 use lib.Pow.{pow-pos, pow-mono}
-use borrow.Author.Tests.{lt-ltb, le-ltb}
+use borrow.Author.Tests.{le-ltb}
 use Rattle.finite.specs.Tests.{tick}
 use Rattle.finite.proofs.Tests.{gather-in, gather-out}
 use Rattle.bits.specs.Bit.{bit}
@@ -42,6 +42,15 @@ set-bit (suc k) p i = by (p k) refl (set-bit k p i)
 -- a number that has exactly the set's bits is the set
 pub set-is : (n k : ℕ) (p : ℕ → Bool) (r : ℕ) → r < 2 ^ n → k ≤ n → ((i : ℕ) → i < n → bit r i ≡ (ltb i k && p i)) → r ≡ setOf k p
 set-is n k p r h l f = bit-ext n r (setOf k p) h (lt-of-lt-of-le (set-low k p) (pow-mono l)) (λ i m. f i m ∙ sym (set-bit k p i))
+
+-- each number is small enough for `set-is`
+below-power : (n : ℕ) → n < 2 ^ n
+below-power zero = pow-pos 0
+below-power (suc n) = let l = below-power n in rw (pow-suc 2 n) (omega (arith, l))
+
+-- the same where every bit is told
+pub set-bits : (k : ℕ) (p : ℕ → Bool) (r : ℕ) → ((i : ℕ) → bit r i ≡ (ltb i k && p i)) → r ≡ setOf k p
+set-bits k p r f = set-is (r + k) k p r (lt-of-lt-of-le (below-power r) (pow-mono (omega arith))) (omega arith) (λ i m. f i)
 
 -- tests that agree below k make one set
 pub set-same : (k : ℕ) (p q : ℕ → Bool) → ((i : ℕ) → i < k → p i ≡ q i) → setOf k p ≡ setOf k q

@@ -1,0 +1,153 @@
+-- The arrays after a step's stores.
+-- Assumes nothing.
+use Prim.Native.Nat.{ℕ, zero, suc, _+_, _-_, _*_, _≤_, _<_}
+use native.Mathlib.Nat.{zero-add, zero-mul, suc-add, not-suc-le-zero, le-of-suc-le-suc}
+use native.Mathlib.Omega.{arith}
+use native.Mathlib.Decide.{decLt}
+use mathlib.Core.Path.{_≡_, refl, sym, ap, ap₂, _∙_}
+use mathlib.Core.Bool.{Bool, false, _&&_}
+use mathlib.Core.List.{List, [], _∷_, _++_, map}
+use lib.Dec.{ltb}
+use lib.ListN.{length, getD, set, replicate, length-append, length-set, length-map, List·getD-map}
+use lib.Seq.{set-append-left, ext-getD, getD-append-add}
+use Rattle.finite.specs.Lists.{table}
+use Rattle.finite.proofs.Lists.{table-get, table-length, table-same, table-snoc}
+use Rattle.bits.specs.Bit.{bit}
+use Rattle.model.specs.Limits.{mostThreads}
+use Rattle.storage_model.specs.Limits.{mostWrites, mostListed}
+use Rattle.storage_model.specs.Subsystem.{Event, appended}
+use Rattle.case.specs.Held.{pad, rowsOf}
+use Rattle.case.proofs.Pad.{length-pad, pad-get, pad-set, map-snoc}
+use Rattle.storage.specs.Held.{edgeIn, entryOf, setOf}
+use Rattle.storage.proofs.Sets.{set-bits, set-same, set-more}
+
+-- ---- a list with zeros behind it
+
+-- an element of the list is stored
+pub pad-put : (n : ℕ) (xs : List ℕ) (i v : ℕ) → i < length xs → set (pad n xs) i v ≡ pad n (set xs i v)
+unfolding pad
+pad-put n xs i v h = rw (set-append-left xs (replicate (n - length xs) 0) i v h, length-set xs i v)
+
+-- nothing but zeros stands behind the list
+pub pad-past : (n : ℕ) (xs : List ℕ) (i : ℕ) → length xs ≤ i → getD (pad n xs) i 0 ≡ 0
+unfolding pad
+pad-past n xs i h =
+    let e : i ≡ length xs + (i - length xs) = omega arith in
+    ap (λ (j : ℕ). getD (pad n xs) j 0) e ∙ getD-append-add xs (replicate (n - length xs) 0) (i - length xs) 0 ∙ zeros (n - length xs) (i - length xs)
+  where
+    zeros : (n i : ℕ) → getD {A = ℕ} (replicate n 0) i 0 ≡ 0
+    zeros zero i = refl
+    zeros (suc n) zero = refl
+    zeros (suc n) (suc i) = zeros n i
+
+map-set : {A B : Type 0} (f : A → B) (as′ : List A) (i : ℕ) (a : A) → map f (set as′ i a) ≡ set (map f as′) i (f a)
+map-set f [] i a = refl
+map-set f (x ∷ as′) zero a = refl
+map-set {B = B} f (x ∷ as′) (suc i) a = ap (λ (l : List B). f x ∷ l) (map-set f as′ i a)
+
+-- what a field's array holds when an element was stored
+pub field-put : {A : Type 0} (f : A → ℕ) (n : ℕ) (as′ : List A) (i : ℕ) (a : A) → i < length as′ → set (pad n (map f as′)) i (f a) ≡ pad n (map f (set as′ i a))
+field-put f n as′ i a h = pad-put n (map f as′) i (f a) (rw (length-map as′ f) h) ∙ ap (pad n) (sym (map-set f as′ i a))
+
+-- ---- a thread's list with one event more
+
+-- its length
+pub listed-append : (ls : List (List Event)) (t : ℕ) (e : Event) → t < length ls
+    → set (pad mostThreads (map length ls)) t (length (getD ls t []) + 1) ≡ pad mostThreads (map length (appended ls t e))
+listed-append ls t e h =
+    ap (set (pad mostThreads (map length ls)) t) (sym (length-append (getD ls t []) (e ∷ []))) ∙ field-put length mostThreads ls t (getD ls t [] ++ (e ∷ [])) h
+
+set-behind : (xs ys : List ℕ) (j v : ℕ) → set (xs ++ ys) (length xs + j) v ≡ xs ++ set ys j v
+set-behind [] ys j v = ap (λ (i : ℕ). set ys i v) (zero-add j)
+set-behind (x ∷ xs) ys j v = ap (λ (i : ℕ). set (x ∷ (xs ++ ys)) i v) (suc-add (length xs) j) ∙ ap (λ (l : List ℕ). x ∷ l) (set-behind xs ys j v)
+
+-- as many places as n for each list
+pub rows-length : (n : ℕ) (rs : List (List ℕ)) → ((y : ℕ) → y < length rs → length (getD rs y []) ≤ n) → length (rowsOf n rs) ≡ length rs * n
+unfolding rowsOf
+rows-length n [] b = sym (zero-mul n)
+rows-length n (r ∷ rs) b =
+    let m = length-pad n r (b 0 (omega arith)) in
+    let e = rows-length n rs (λ y l. b (suc y) (omega arith)) in
+    length-append (pad n r) (rowsOf n rs) ∙ rw (m, e) (omega arith)
+
+-- what is stored behind row t is the row's next
+rows-set : (n : ℕ) (rs : List (List ℕ)) (t v : ℕ) → t < length rs → ((y : ℕ) → y < length rs → length (getD rs y []) ≤ n) → length (getD rs t []) < n
+    → set (rowsOf n rs) (t * n + length (getD rs t [])) v ≡ rowsOf n (set rs t (getD rs t [] ++ (v ∷ [])))
+unfolding rowsOf
+rows-set n [] t v h b l = absurd (not-suc-le-zero h)
+rows-set n (r ∷ rs) zero v h b l =
+    let e : 0 * n + length r ≡ length r = rw (zero-mul n) (zero-add (length r)) in
+    let m : length (pad n r) ≡ n = length-pad n r (b 0 (omega arith)) in
+    rw (e, set-append-left (pad n r) (rowsOf n rs) (length r) v (rw m l), pad-set n r (length r) v refl l)
+rows-set n (r ∷ rs) (suc t) v h b l =
+    let m : length (pad n r) ≡ n = length-pad n r (b 0 (omega arith)) in
+    let far : suc t * n + length (getD rs t []) ≡ length (pad n r) + (t * n + length (getD rs t [])) = rw m (omega arith) in
+    ap (λ (i : ℕ). set (pad n r ++ rowsOf n rs) i v) far
+    ∙ set-behind (pad n r) (rowsOf n rs) (t * n + length (getD rs t [])) v
+    ∙ ap (λ (x : List ℕ). pad n r ++ x) (rows-set n rs t v (le-of-suc-le-suc h) (λ y a. b (suc y) (omega arith)) l)
+
+-- its entries
+pub events-append : (ls : List (List Event)) (t : ℕ) (e : Event) → t < length ls → ((y : ℕ) → y < length ls → length (getD ls y []) ≤ mostListed)
+    → length (getD ls t []) < mostListed
+    → set (pad (mostThreads * mostListed) (rowsOf mostListed (map (map entryOf) ls))) (t * mostListed + length (getD ls t [])) (entryOf e)
+    ≡ pad (mostThreads * mostListed) (rowsOf mostListed (map (map entryOf) (appended ls t e)))
+events-append ls t e h b l =
+    ap (λ (i : ℕ). set (pad (mostThreads * mostListed) (rowsOf mostListed rows)) (t * mostListed + i) (entryOf e)) (sym (size t))
+    ∙ pad-put (mostThreads * mostListed) (rowsOf mostListed rows) (t * mostListed + length (getD rows t [])) (entryOf e) inside
+    ∙ ap (pad (mostThreads * mostListed)) (rows-set mostListed rows t (entryOf e) in-range short (rw (size t) l) ∙ ap (rowsOf mostListed) (sym moved))
+  where
+    rows : List (List ℕ)
+    rows = map (map entryOf) ls
+
+    row : (y : ℕ) → getD rows y [] ≡ map entryOf (getD ls y [])
+    row y = List·getD-map (map entryOf) ls y []
+
+    size : (y : ℕ) → length (getD rows y []) ≡ length (getD ls y [])
+    size y = ap length (row y) ∙ length-map (getD ls y []) entryOf
+
+    in-range : t < length rows
+    in-range = rw (length-map ls (map entryOf)) h
+
+    short : (y : ℕ) → y < length rows → length (getD rows y []) ≤ mostListed
+    short y m = rw (size y) (b y (rw (length-map ls (map entryOf)) at m))
+
+    inside : t * mostListed + length (getD rows t []) < length (rowsOf mostListed rows)
+    inside = rw (rows-length mostListed rows short, size t, length-map ls (map entryOf)) (omega (arith, h, l))
+
+    moved : map (map entryOf) (appended ls t e) ≡ set rows t (getD rows t [] ++ (entryOf e ∷ []))
+    moved = map-set (map entryOf) ls t (getD ls t [] ++ (e ∷ [])) ∙ ap (set rows t) (map-snoc entryOf (getD ls t []) e ∙ ap (λ (r : List ℕ). r ++ (entryOf e ∷ [])) (sym (row t)))
+
+-- ---- the rows of coherence
+
+-- rows are known by their bits
+pub before-table : (rows : List ℕ) (k : ℕ) (co : ℕ → ℕ → Bool) → length rows ≡ mostWrites → k ≤ mostWrites
+    → ((a b : ℕ) → b < k → edgeIn rows a b ≡ (ltb a k && co a b)) → ((b : ℕ) → k ≤ b → getD rows b 0 ≡ 0)
+    → rows ≡ pad mostWrites (table 0 k (λ b. setOf k (λ a. co a b)))
+unfolding edgeIn
+before-table rows k co size most bits none =
+    ext-getD 0 rows (pad mostWrites made) (size ∙ sym (length-pad mostWrites made (rw long most))) (λ b h. at b (decLt b k))
+  where
+    made : List ℕ
+    made = table 0 k (λ b. setOf k (λ a. co a b))
+
+    long : length made ≡ k
+    long = table-length 0 k _
+
+    at : (b : ℕ) → Dec (b < k) → getD rows b 0 ≡ getD (pad mostWrites made) b 0
+    at b (yes l) =
+        set-bits k (λ a. co a b) (getD rows b 0) (λ a. bits a b l) ∙ sym (pad-get mostWrites made b (rw long l) ∙ table-get k (λ b. setOf k (λ a. co a b)) b 0 l)
+    at b (no d) = none b (omega arith) ∙ sym (pad-past mostWrites made b (rw long (omega arith)))
+
+-- the row of a write that was accepted, before which nothing was known of it
+pub before-more : (k : ℕ) (co co′ : ℕ → ℕ → Bool) (row : ℕ) → k < mostWrites → ((a b : ℕ) → a < k → b < k → co′ a b ≡ co a b) → ((b : ℕ) → co′ k b ≡ false)
+    → ((a : ℕ) → bit row a ≡ (ltb a k && co′ a k))
+    → set (pad mostWrites (table 0 k (λ b. setOf k (λ a. co a b)))) k row ≡ pad mostWrites (table 0 (suc k) (λ b. setOf (suc k) (λ a. co′ a b)))
+before-more k co co′ row h agree none bits =
+    pad-set mostWrites (table 0 k (λ b. setOf k (λ a. co a b))) k row (table-length 0 k _) h ∙ ap (pad mostWrites) (sym grown)
+  where
+    grown : table 0 (suc k) (λ b. setOf (suc k) (λ a. co′ a b)) ≡ table 0 k (λ b. setOf k (λ a. co a b)) ++ (row ∷ [])
+    grown =
+        table-snoc 0 k _
+        ∙ ap₂ (λ (l : List ℕ) (r : ℕ). l ++ (r ∷ []))
+        (table-same 0 k _ _ (λ b z l. set-more k (λ a. co′ a b) (none b) ∙ set-same k _ _ (λ a m. agree a b m (omega arith))))
+        (ap (λ (b : ℕ). setOf (suc k) (λ a. co′ a b)) (zero-add k) ∙ set-more k (λ a. co′ a k) (none k) ∙ sym (set-bits k (λ a. co′ a k) row bits))
