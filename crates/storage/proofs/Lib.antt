@@ -1,3 +1,5 @@
 pub mod Sets
 pub mod Events
+pub mod Entries
 pub mod Stores
+pub mod Means

@@ -86,6 +86,18 @@ rows-set n (r ∷ rs) (suc t) v h b l =
     ∙ set-behind (pad n r) (rowsOf n rs) (t * n + length (getD rs t [])) v
     ∙ ap (λ (x : List ℕ). pad n r ++ x) (rows-set n rs t v (le-of-suc-le-suc h) (λ y a. b (suc y) (omega arith)) l)
 
+-- the numbers of a list's events
+entries-at : (ls : List (List Event)) (y : ℕ) → getD (map (map entryOf) ls) y [] ≡ map entryOf (getD ls y [])
+entries-at ls y = List·getD-map (map entryOf) ls y []
+
+entries-length : (ls : List (List Event)) (y : ℕ) → length (getD (map (map entryOf) ls) y []) ≡ length (getD ls y [])
+entries-length ls y = ap length (entries-at ls y) ∙ length-map (getD ls y []) entryOf
+
+-- they have room where the lists do
+pub entries-short : (ls : List (List Event)) → ((y : ℕ) → y < length ls → length (getD ls y []) ≤ mostListed)
+    → (y : ℕ) → y < length (map (map entryOf) ls) → length (getD (map (map entryOf) ls) y []) ≤ mostListed
+entries-short ls b y m = rw (entries-length ls y) (b y (rw (length-map ls (map entryOf)) at m))
+
 -- its entries
 pub events-append : (ls : List (List Event)) (t : ℕ) (e : Event) → t < length ls → ((y : ℕ) → y < length ls → length (getD ls y []) ≤ mostListed)
     → length (getD ls t []) < mostListed
@@ -99,23 +111,20 @@ events-append ls t e h b l =
     rows : List (List ℕ)
     rows = map (map entryOf) ls
 
-    row : (y : ℕ) → getD rows y [] ≡ map entryOf (getD ls y [])
-    row y = List·getD-map (map entryOf) ls y []
-
     size : (y : ℕ) → length (getD rows y []) ≡ length (getD ls y [])
-    size y = ap length (row y) ∙ length-map (getD ls y []) entryOf
+    size y = entries-length ls y
 
     in-range : t < length rows
     in-range = rw (length-map ls (map entryOf)) h
 
     short : (y : ℕ) → y < length rows → length (getD rows y []) ≤ mostListed
-    short y m = rw (size y) (b y (rw (length-map ls (map entryOf)) at m))
+    short = entries-short ls b
 
     inside : t * mostListed + length (getD rows t []) < length (rowsOf mostListed rows)
     inside = rw (rows-length mostListed rows short, size t, length-map ls (map entryOf)) (omega (arith, h, l))
 
     moved : map (map entryOf) (appended ls t e) ≡ set rows t (getD rows t [] ++ (entryOf e ∷ []))
-    moved = map-set (map entryOf) ls t (getD ls t [] ++ (e ∷ [])) ∙ ap (set rows t) (map-snoc entryOf (getD ls t []) e ∙ ap (λ (r : List ℕ). r ++ (entryOf e ∷ [])) (sym (row t)))
+    moved = map-set (map entryOf) ls t (getD ls t [] ++ (e ∷ [])) ∙ ap (set rows t) (map-snoc entryOf (getD ls t []) e ∙ ap (λ (r : List ℕ). r ++ (entryOf e ∷ [])) (sym (entries-at ls t)))
 
 -- ---- the rows of coherence
 
