@@ -20,7 +20,7 @@ pub record Grows (s t : State) : Type 0 where
   pub writes : writesSeen s ≤ writesSeen t
   pub barriers : barriersSeen s ≤ barriersSeen t
 
-precedes-members : (e f : Event) (l : List Event) → precedes e f l ≡ true → (member e l ≡ true) × (member f l ≡ true)
+pub precedes-members : (e f : Event) (l : List Event) → precedes e f l ≡ true → (member e l ≡ true) × (member f l ≡ true)
 unfolding precedes member
 precedes-members e f [] h = absurd (false≢true h)
 precedes-members e f (x ∷ l) h = by (precedes-members e f l)
