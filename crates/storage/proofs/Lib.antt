@@ -3,3 +3,6 @@ pub mod Events
 pub mod Entries
 pub mod Stores
 pub mod Means
+pub mod Back
+pub mod Next
+pub mod Start

@@ -18,8 +18,8 @@ use Rattle.bits.specs.Bit.{bit}
 use Rattle.bits.proofs.Bits.{bit-zero}
 use Rattle.model.specs.Limits.{mostThreads, mostAddresses}
 use Rattle.storage_model.specs.Limits.{mostWrites, mostBarriers, mostListed}
-use Rattle.storage_model.specs.Subsystem.{Write, Barrier, Event, noWrite, noBarrier, member, precedes, writer, address, value, owner, class, events, coherent, writesSeen, barriersSeen, unacknowledgedSync}
-use Rattle.storage_model.specs.Sound.{WriteWithin, BarrierWithin}
+use Rattle.storage_model.specs.Subsystem.{State, Write, Barrier, Event, noWrite, noBarrier, member, precedes, writer, address, value, owner, class, events, coherent, writesSeen, barriersSeen, unacknowledgedSync}
+use Rattle.storage_model.specs.Sound.{Sound, Within, WriteWithin, BarrierWithin}
 use Rattle.storage_laws.proofs.Relations.{related-in}
 use Rattle.storage_laws.proofs.Short.{lists-short}
 use Rattle.case.specs.Held.{pad, rowsOf}
@@ -30,6 +30,10 @@ use Rattle.storage.proofs.Events.{entry-low}
 use Rattle.storage.proofs.Sets.{set-bit}
 use Rattle.storage.proofs.Stores.{pad-past, rows-length, entries-short}
 use Rattle.storage.proofs.Entries.{all-members, all-places, everywhere}
+
+-- the lists of a state are short
+pub lists-few : (s : State) → Sound s → Within s → (t : ℕ) → length (events s t) ≤ mostListed
+lists-few s S W t = let l = lists-short s S t in omega (arith, l, W .few-writes, W .few-barriers)
 
 -- ---- of any struct
 module _ (c : Held) where
@@ -214,7 +218,7 @@ module _ (c : Held) (G : Good c) where
 
   -- a thread's list is short, and nothing stands in it twice
   pub list-short : (t : ℕ) → length (events (stateOf c) t) ≤ mostListed
-  list-short t = let l = lists-short (stateOf c) (G .sound) t in omega (arith, l, G .within .few-writes, G .within .few-barriers)
+  list-short t = lists-few (stateOf c) (G .sound) (G .within) t
 
   pub list-once : (t : ℕ) → t < c .threads → (e : Event) → precedes e e (listAt (c .listed) (c .events) t) ≡ true → ⊥
   list-once t l e h = G .sound .lists t .once e (rw (events-of c t l) h)

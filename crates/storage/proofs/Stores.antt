@@ -10,11 +10,12 @@ use mathlib.Core.List.{List, [], _∷_, _++_, map}
 use lib.Dec.{ltb}
 use lib.ListN.{length, getD, set, replicate, length-append, length-set, length-map, List·getD-map}
 use lib.Seq.{set-append-left, ext-getD, getD-append-add}
+use Rattle.finite.specs.Tests.{tick}
 use Rattle.finite.specs.Lists.{table}
 use Rattle.finite.proofs.Lists.{table-get, table-length, table-same, table-snoc}
 use Rattle.bits.specs.Bit.{bit}
 use Rattle.model.specs.Limits.{mostThreads}
-use Rattle.storage_model.specs.Limits.{mostWrites, mostListed}
+use Rattle.storage_model.specs.Limits.{mostWrites, mostBarriers, mostListed}
 use Rattle.storage_model.specs.Subsystem.{Event, appended}
 use Rattle.case.specs.Held.{pad, rowsOf}
 use Rattle.case.proofs.Pad.{length-pad, pad-get, pad-set, map-snoc}
@@ -48,6 +49,10 @@ map-set {B = B} f (x ∷ as′) (suc i) a = ap (λ (l : List B). f x ∷ l) (map
 -- what a field's array holds when an element was stored
 pub field-put : {A : Type 0} (f : A → ℕ) (n : ℕ) (as′ : List A) (i : ℕ) (a : A) → i < length as′ → set (pad n (map f as′)) i (f a) ≡ pad n (map f (set as′ i a))
 field-put f n as′ i a h = pad-put n (map f as′) i (f a) (rw (length-map as′ f) h) ∙ ap (pad n) (sym (map-set f as′ i a))
+
+-- the mark of a sync that is acknowledged
+pub mark-cleared : (marks : List Bool) (b : ℕ) → b < length marks → set (pad mostBarriers (map tick marks)) b 0 ≡ pad mostBarriers (map tick (set marks b false))
+mark-cleared marks b h = field-put tick mostBarriers marks b false h
 
 -- ---- a thread's list with one event more
 
@@ -87,10 +92,10 @@ rows-set n (r ∷ rs) (suc t) v h b l =
     ∙ ap (λ (x : List ℕ). pad n r ++ x) (rows-set n rs t v (le-of-suc-le-suc h) (λ y a. b (suc y) (omega arith)) l)
 
 -- the numbers of a list's events
-entries-at : (ls : List (List Event)) (y : ℕ) → getD (map (map entryOf) ls) y [] ≡ map entryOf (getD ls y [])
+pub entries-at : (ls : List (List Event)) (y : ℕ) → getD (map (map entryOf) ls) y [] ≡ map entryOf (getD ls y [])
 entries-at ls y = List·getD-map (map entryOf) ls y []
 
-entries-length : (ls : List (List Event)) (y : ℕ) → length (getD (map (map entryOf) ls) y []) ≡ length (getD ls y [])
+pub entries-length : (ls : List (List Event)) (y : ℕ) → length (getD (map (map entryOf) ls) y []) ≡ length (getD ls y [])
 entries-length ls y = ap length (entries-at ls y) ∙ length-map (getD ls y []) entryOf
 
 -- they have room where the lists do
@@ -147,7 +152,7 @@ before-table rows k co size most bits none =
         set-bits k (λ a. co a b) (getD rows b 0) (λ a. bits a b l) ∙ sym (pad-get mostWrites made b (rw long l) ∙ table-get k (λ b. setOf k (λ a. co a b)) b 0 l)
     at b (no d) = none b (omega arith) ∙ sym (pad-past mostWrites made b (rw long (omega arith)))
 
--- the row of a write that was accepted, before which nothing was known of it
+-- a new write's row, where the new write is before none
 pub before-more : (k : ℕ) (co co′ : ℕ → ℕ → Bool) (row : ℕ) → k < mostWrites → ((a b : ℕ) → a < k → b < k → co′ a b ≡ co a b) → ((b : ℕ) → co′ k b ≡ false)
     → ((a : ℕ) → bit row a ≡ (ltb a k && co′ a k))
     → set (pad mostWrites (table 0 k (λ b. setOf k (λ a. co a b)))) k row ≡ pad mostWrites (table 0 (suc k) (λ b. setOf (suc k) (λ a. co′ a b)))
