@@ -79,7 +79,9 @@ module _ (s : State) (S : Sound s) (W : Within s) where
       ∙ event-back (getD (events s t) j (write 0)) (λ w z. let m = S .lists t .writes w (known w z) in omega (arith, m, W .few-writes))
     where
       stored : getD (held s .events) (t * mostListed + j) 0 ≡ getD (getD (map (map entryOf) (s .propagated)) t []) j 0
-      stored = in-rows mostListed (map (map entryOf) (s .propagated)) _ t j (rw (length-map (s .propagated) (map entryOf)) h) (entries-short (s .propagated) (λ y m. lists-few s S W y)) (rw (entries-length (s .propagated) t) l)
+      stored =
+          in-rows mostListed (map (map entryOf) (s .propagated)) _ t j (rw (length-map (s .propagated) (map entryOf)) h)
+          (entries-short (s .propagated) (λ y m. lists-few s S W y)) (rw (entries-length (s .propagated) t) l)
 
       known : (w : ℕ) → getD (events s t) j (write 0) ≡ write w → member (write w) (events s t) ≡ true
       known w z = subst (λ (e : Event). member e (events s t) ≡ true) z (member-at (events s t) j (write 0) l)

@@ -28,7 +28,7 @@ use Rattle.storage.specs.Held.{entryOf, listAt, edgeIn, relationIn, setO
 use Rattle.storage.specs.declared.Storage.{Storage as Held}
 use Rattle.storage.proofs.Events.{entry-low}
 use Rattle.storage.proofs.Sets.{set-bit}
-use Rattle.storage.proofs.Stores.{pad-past, rows-length, entries-short}
+use Rattle.storage.proofs.Stores.{pad-past, field-past, rows-length, entries-short}
 use Rattle.storage.proofs.Entries.{all-members, all-places, everywhere}
 
 -- the lists of a state are short
@@ -230,7 +230,7 @@ module _ (c : Held) (G : Good c) where
       by (yes l) = rw (events-of c t l, list-length c t) at (list-short t)
       by (no d) =
           let z : getD (c .listed) t 0 ≡ 0 =
-          ap (λ (x : List ℕ). getD x t 0) listed-is ∙ pad-past mostThreads (map length (stateOf c .propagated)) t (rw (length-map (stateOf c .propagated) length, lists-of c) (omega arith)) in
+          ap (λ (x : List ℕ). getD x t 0) listed-is ∙ field-past length mostThreads (stateOf c .propagated) t (rw (lists-of c) (omega arith)) in
           omega (arith, z)
 
   -- coherence, with nothing from or to a write that was not seen
@@ -270,15 +270,15 @@ module _ (c : Held) (G : Good c) where
       by (no d) =
           List·getD-eq-default (stateOf c .unacknowledged) false (rw (marks-of c) (omega arith))
           ∙ sym (ap (λ (x : ℕ). eqb x 1)
-          (ap (λ (x : List ℕ). getD x b 0) unacknowledged-is ∙ pad-past mostBarriers (map tick (stateOf c .unacknowledged)) b (rw (length-map (stateOf c .unacknowledged) tick, marks-of c) (omega arith))))
+          (ap (λ (x : List ℕ). getD x b 0) unacknowledged-is ∙ field-past tick mostBarriers (stateOf c .unacknowledged) b (rw (marks-of c) (omega arith))))
 
   -- the entries of the lists
   pub events-size : length (c .events) ≡ mostThreads * mostListed
   events-size =
+      let rows : length (rowsOf mostListed (map (map entryOf) (stateOf c .propagated))) ≡ length (map (map entryOf) (stateOf c .propagated)) * mostListed =
+      rows-length mostListed _ (entries-short (stateOf c .propagated) (λ y l. unfold events in list-short y)) in
       ap length events-is
-      ∙ length-pad (mostThreads * mostListed) _
-      (rw (rows-length mostListed (map (map entryOf) (stateOf c .propagated)) (entries-short (stateOf c .propagated) (λ y l. unfold events in list-short y)), length-map (stateOf c .propagated) (map entryOf), lists-of c)
-      (omega (arith, threads-few)))
+      ∙ length-pad (mostThreads * mostListed) _ (rw (rows, length-map (stateOf c .propagated) (map entryOf), lists-of c) (omega (arith, threads-few)))
 
   -- the numbers of a list's events
   entries-low : (t : ℕ) → All (λ x. x < mostListed) (map entryOf (events (stateOf c) t))

@@ -50,6 +50,10 @@ map-set {B = B} f (x ∷ as′) (suc i) a = ap (λ (l : List B). f x ∷ l) (map
 pub field-put : {A : Type 0} (f : A → ℕ) (n : ℕ) (as′ : List A) (i : ℕ) (a : A) → i < length as′ → set (pad n (map f as′)) i (f a) ≡ pad n (map f (set as′ i a))
 field-put f n as′ i a h = pad-put n (map f as′) i (f a) (rw (length-map as′ f) h) ∙ ap (pad n) (sym (map-set f as′ i a))
 
+-- and past its last
+pub field-past : {A : Type 0} (f : A → ℕ) (n : ℕ) (as′ : List A) (i : ℕ) → length as′ ≤ i → getD (pad n (map f as′)) i 0 ≡ 0
+field-past f n as′ i h = pad-past n (map f as′) i (rw (length-map as′ f) h)
+
 -- the mark of a sync that is acknowledged
 pub mark-cleared : (marks : List Bool) (b : ℕ) → b < length marks → set (pad mostBarriers (map tick marks)) b 0 ≡ pad mostBarriers (map tick (set marks b false))
 mark-cleared marks b h = field-put tick mostBarriers marks b false h
@@ -129,7 +133,9 @@ events-append ls t e h b l =
     inside = rw (rows-length mostListed rows short, size t, length-map ls (map entryOf)) (omega (arith, h, l))
 
     moved : map (map entryOf) (appended ls t e) ≡ set rows t (getD rows t [] ++ (entryOf e ∷ []))
-    moved = map-set (map entryOf) ls t (getD ls t [] ++ (e ∷ [])) ∙ ap (set rows t) (map-snoc entryOf (getD ls t []) e ∙ ap (λ (r : List ℕ). r ++ (entryOf e ∷ [])) (sym (entries-at ls t)))
+    moved =
+        map-set (map entryOf) ls t (getD ls t [] ++ (e ∷ []))
+        ∙ ap (set rows t) (map-snoc entryOf (getD ls t []) e ∙ ap (λ (r : List ℕ). r ++ (entryOf e ∷ [])) (sym (entries-at ls t)))
 
 -- ---- the rows of coherence
 
