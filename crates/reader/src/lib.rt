@@ -527,7 +527,7 @@ fn read_orders(bytes: &[u8], at: usize, threads: usize, k: usize, rows: &mut [u6
 }
 
 // Reads the initial values of so many addresses into an array that holds zeros.
-fn read_initials(
+pub fn read_initials(
     bytes: &[u8],
     at: usize,
     addresses: usize,
@@ -671,7 +671,7 @@ fn read_name(bytes: &[u8], at: usize, i: usize, name: &mut [u8; Case::MOST_NAME]
 }
 
 // The refusal of a stage that stores.
-fn refused_at(r: PlaceRead) -> Refusal
+pub fn refused_at(r: PlaceRead) -> Refusal
     ensures { λ f. ⌜ f ≡ refusedAt r ⌝ }
 {
     match r {
