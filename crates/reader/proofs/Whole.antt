@@ -70,13 +70,13 @@ same-goods k ks ts as′ vs es h size =
     (λ e l. sym (rw (h .kind) (in-list (λ a. a .kind) es _ e (omega arith)))) (λ e l. sym (rw (h .thread) (in-list (λ a. a .thread) es _ e (omega arith))))
 
 -- what a stage with a count says of what it read
-record Counted {A : Type 0} (number : A → ℕ) (S : A → Type 0) (o : Out A) (k p : ℕ) : Type 0 where
+pub record Counted {A : Type 0} (number : A → ℕ) (S : A → Type 0) (o : Out A) (k p : ℕ) : Type 0 where
   pub what : A
   pub is : o ≡ next what p
   pub number-is : k ≡ number what
   pub stored : S what
 
-counted-stop : {A : Type 0} (number : A → ℕ) (S : A → Type 0) (o : Out A) (r : CountRead) (f g : Refusal) → StoresCounted number S o r → r ≡ counted.Refused f → g ≡ refusedCount r
+pub counted-stop : {A : Type 0} (number : A → ℕ) (S : A → Type 0) (o : Out A) (r : CountRead) (f g : Refusal) → StoresCounted number S o r → r ≡ counted.Refused f → g ≡ refusedCount r
     → o ≡ stop (g .number) (g .place)
 unfolding refusedCount
 counted-stop number S (stop x p) r f g h u e =
@@ -84,7 +84,7 @@ counted-stop number S (stop x p) r f g h u e =
     ap (λ (g : Refusal). stop (g .number) (g .place)) same ∙ rw (e, u)
 counted-stop number S (next a p) r f g h u e = let e = h .0 in let z : _≡_ {A = ℕ} 0 1 = cc in absurd (omega arith)
 
-counted-next : {A : Type 0} (number : A → ℕ) (S : A → Type 0) (o : Out A) (r : CountRead) (k q : ℕ) → StoresCounted number S o r → r ≡ counted.Count k q → Counted number S o k q
+pub counted-next : {A : Type 0} (number : A → ℕ) (S : A → Type 0) (o : Out A) (r : CountRead) (k q : ℕ) → StoresCounted number S o r → r ≡ counted.Count k q → Counted number S o k q
 counted-next number S (stop x p) r k q h u = let z : _≡_ {A = ℕ} 0 1 = cc in absurd (omega arith)
 counted-next number S (next a p) r k q h u =
     let e = h .0 in

@@ -684,7 +684,7 @@ pub fn refused_at(r: PlaceRead) -> Refusal
 }
 
 // The same of one with a count.
-fn refused_count(r: CountRead) -> Refusal
+pub fn refused_count(r: CountRead) -> Refusal
     ensures { λ f. ⌜ f ≡ refusedCount r ⌝ }
 {
     match r {

@@ -6,11 +6,12 @@ use mathlib.Core.Bool.{Bool, cond, _||_}
 use mathlib.Core.List.{List, [], map}
 use lib.Dec.{eqb}
 use Rattle.number.specs.Reader.{Out, stop, next, Reader, give, _>>=_, turns, times, upTo, under}
-use Rattle.model.specs.Limits.{mostValue}
+use Rattle.model.specs.Limits.{mostAddresses, mostValue}
 use Rattle.storage_model.specs.Limits.{mostSteps}
 use Rattle.storage_model.specs.Trace.{Trace, Step}
 use Rattle.storage_model.specs.Layout.{nextStep}
 use Rattle.case.specs.Held.{pad}
+use Rattle.reader.specs.Answers.{Padded}
 use Rattle.trace_reader.specs.Held.{kindOf, firstOf, secondOf, valueOf, stepOf}
 use Rattle.trace_reader.specs.declared.Step as code
 use Rattle.trace_reader.specs.declared.StepRead.{StepRead}
@@ -45,8 +46,8 @@ anyFields kind firsts seconds = do
   cond (eqb kind 7) (give (stepOf kind x 0 0)) (secondField kind x seconds)
 
 -- what follows the counts of threads and addresses
-unfoldable pub body : (n m : ℕ) → Reader Trace
-body n m = do
+unfoldable pub listing : (n m : ℕ) → Reader Trace
+listing n m = do
   initials ← times m (upTo mostValue)
   i ← upTo mostSteps
   steps ← turns i (nextStep n m) []
@@ -67,3 +68,10 @@ pub record Steps (kinds firsts seconds values : List ℕ) (xs : List Step) : Typ
   pub first : firsts ≡ pad mostSteps (map firstOf xs)
   pub second : seconds ≡ pad mostSteps (map secondOf xs)
   pub value : values ≡ pad mostSteps (map valueOf xs)
+
+-- the counts of a trace, and its initial values and steps in arrays
+pub record Listing (n m : ℕ) (initial kinds firsts seconds values : List ℕ) (t : Trace) : Type 0 where
+  pub threads : n ≡ t .n
+  pub addresses : m ≡ t .m
+  pub initials : Padded mostAddresses initial (t .initials)
+  pub steps : Steps kinds firsts seconds values (t .steps)

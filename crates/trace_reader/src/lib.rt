@@ -3,16 +3,19 @@ ghost use mathlib.Core.Path.{_≡_};
 ghost use mathlib.Core.List.{[]};
 ghost use Prim.Native.Nat.{_≤_, _<_};
 ghost use lib.Dec.{eqb};
+ghost use lib.ListN.{length, replicate};
 ghost use Rattle.finite.specs.Tests.{tick};
 ghost use Rattle.number.specs.Reader.{turns, stop};
+ghost use Rattle.model.specs.Limits.{mostAddresses};
 ghost use Rattle.storage_model.specs.Limits.{mostKind, mostSteps};
 ghost use Rattle.storage_model.specs.Layout.{roomFor, step, nextStep, readTrace};
-ghost use Rattle.reader.specs.Answers.{Counts, Stores};
+ghost use Rattle.reader.specs.Answers.{Counts, Stores, StoresCounted};
 ghost use Rattle.trace_reader.specs.Held.{emptyTrace, readingShown};
-ghost use Rattle.trace_reader.specs.Fields.{firstCount, secondCount, hasValue, secondField, anyFields, stepShown, Steps, body};
+ghost use Rattle.trace_reader.specs.Fields.{firstCount, secondCount, hasValue, secondField, anyFields, stepShown, Steps, listing, Listing};
 use case::Case;
 use number::NumberRead;
 use number::Refusal;
+use reader::CountRead;
 use reader::PlaceRead;
 
 // A trace. Its fields and their order are those of litmus_steps in include/litmus.h.
@@ -296,6 +299,48 @@ fn read_steps(
     PlaceRead::Next(place)
 }
 
+// Reads the initial values and the steps into arrays that hold zeros; gives how many steps.
+fn read_listing(
+    bytes: &[u8],
+    at: usize,
+    threads: usize,
+    addresses: usize,
+    initial: &mut [u32; Case::MOST_ADDRESSES],
+    kinds: &mut [u8; Trace::MOST_STEPS],
+    firsts: &mut [u8; Trace::MOST_STEPS],
+    seconds: &mut [u8; Trace::MOST_STEPS],
+    values: &mut [u32; Trace::MOST_STEPS],
+) -> CountRead
+    requires { ⌜ Counts threads addresses ⌝ }
+    requires { ⌜ now initial ≡ replicate mostAddresses 0 ⌝ }
+    requires { ⌜ Steps (now kinds) (now firsts) (now seconds) (now values) [] ⌝ }
+    ensures { λ r. ⌜ StoresCounted (λ t. length (t .steps)) (Listing threads addresses (now (initial .exit)) (now (kinds .exit)) (now (firsts .exit)) (now (seconds .exit)) (now (values .exit))) (listing threads addresses (now (bytes .entry)) at) r ⌝ }
+{
+    let initials = reader::read_initials(bytes, at, addresses, initial);
+    let PlaceRead::Next(after_initials) = initials else {
+        return CountRead::Refused(reader::refused_at(initials));
+    };
+    let count = number::read_number(bytes, after_initials, Trace::MOST_STEPS as u32);
+    let NumberRead::Number(k, after_count) = count else {
+        return CountRead::Refused(number::refused(count));
+    };
+    let steps = read_steps(
+        bytes,
+        after_count,
+        threads,
+        addresses,
+        k as usize,
+        kinds,
+        firsts,
+        seconds,
+        values,
+    );
+    let PlaceRead::Next(after_steps) = steps else {
+        return CountRead::Refused(reader::refused_at(steps));
+    };
+    CountRead::Count(k as usize, after_steps)
+}
+
 // The answer to a trace that can't be read.
 fn no_trace(f: Refusal) -> TraceReading
     ensures { λ r. ⌜ r ≡ readingShown (stop (f .number) (f .place)) ⌝ }
@@ -312,40 +357,32 @@ fn no_trace(f: Refusal) -> TraceReading
 // Reads what follows the counts of threads and addresses.
 fn read_body(bytes: &[u8], at: usize, threads: usize, addresses: usize) -> TraceReading
     requires { ⌜ Counts threads addresses ⌝ }
-    ensures { λ r. ⌜ r ≡ readingShown (body threads addresses (now (bytes .entry)) at) ⌝ }
+    ensures { λ r. ⌜ r ≡ readingShown (listing threads addresses (now (bytes .entry)) at) ⌝ }
 {
     let mut initial = [0u32; Case::MOST_ADDRESSES];
-    let initials = reader::read_initials(bytes, at, addresses, &mut initial);
-    let PlaceRead::Next(after_initials) = initials else {
-        return no_trace(reader::refused_at(initials));
-    };
-    let count = number::read_number(bytes, after_initials, Trace::MOST_STEPS as u32);
-    let NumberRead::Number(steps, after_count) = count else {
-        return no_trace(number::refused(count));
-    };
     let mut kind = [0u8; Trace::MOST_STEPS];
     let mut first = [0u8; Trace::MOST_STEPS];
     let mut second = [0u8; Trace::MOST_STEPS];
     let mut value = [0u32; Trace::MOST_STEPS];
-    let listed = read_steps(
+    let read = read_listing(
         bytes,
-        after_count,
+        at,
         threads,
         addresses,
-        steps as usize,
+        &mut initial,
         &mut kind,
         &mut first,
         &mut second,
         &mut value,
     );
-    let PlaceRead::Next(length) = listed else {
-        return no_trace(reader::refused_at(listed));
+    let CountRead::Count(steps, length) = read else {
+        return no_trace(reader::refused_count(read));
     };
     let trace = Trace {
         threads,
         addresses,
         initial,
-        steps: steps as usize,
+        steps,
         kind,
         first,
         second,
