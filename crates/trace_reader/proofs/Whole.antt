@@ -90,16 +90,16 @@ module _ (s : List ℕ) (at n m : ℕ) (r₁ : CountRead) (initial ks fs gs vs :
   whole-struct k p u =
       let d = counted-next (λ t. length (t .steps)) (Listing n m initial ks fs gs vs) (listing n m s at) r₁ k p g₁ u in
       let held : _≡_ {A = Held} (record { threads = n; addresses = m; initial = initial; steps = k; kind = ks; first = fs; second = gs; value = vs }) (heldTrace (d .what)) =
-        λ i. record {
-          threads = d .stored .threads i;
-          addresses = d .stored .addresses i;
-          initial = d .stored .initials .stored i;
-          steps = d .number-is i;
-          kind = d .stored .steps .kind i;
-          first = d .stored .steps .first i;
-          second = d .stored .steps .second i;
-          value = d .stored .steps .value i;
-        } in
+      λ i. record {
+        threads = d .stored .threads i;
+        addresses = d .stored .addresses i;
+        initial = d .stored .initials .stored i;
+        steps = d .number-is i;
+        kind = d .stored .steps .kind i;
+        first = d .stored .steps .first i;
+        second = d .stored .steps .second i;
+        value = d .stored .steps .value i;
+      } in
       ap (λ (t : Held). record { number = 0; place = 0; length = p; trace = t }) held ∙ ap readingShown (sym (d .is))
 
 -- from the start
