@@ -269,8 +269,7 @@ fn read_steps(
     seconds: &mut [u8; Trace::MOST_STEPS],
     values: &mut [u32; Trace::MOST_STEPS],
 ) -> PlaceRead
-    requires { ⌜ Counts threads addresses ⌝ }
-    requires { ⌜ count ≤ mostSteps ⌝ }
+    requires { ⌜ Counts threads addresses × (count ≤ mostSteps) ⌝ }
     requires { ⌜ Steps (now kinds) (now firsts) (now seconds) (now values) [] ⌝ }
     ensures { λ r. ⌜ Stores (Steps (now (kinds .exit)) (now (firsts .exit)) (now (seconds .exit)) (now (values .exit))) (turns count (nextStep threads addresses) [] (now (bytes .entry)) at) r ⌝ }
 {
@@ -311,8 +310,7 @@ fn read_listing(
     seconds: &mut [u8; Trace::MOST_STEPS],
     values: &mut [u32; Trace::MOST_STEPS],
 ) -> CountRead
-    requires { ⌜ Counts threads addresses ⌝ }
-    requires { ⌜ now initial ≡ replicate mostAddresses 0 ⌝ }
+    requires { ⌜ Counts threads addresses × (now initial ≡ replicate mostAddresses 0) ⌝ }
     requires { ⌜ Steps (now kinds) (now firsts) (now seconds) (now values) [] ⌝ }
     ensures { λ r. ⌜ StoresCounted (λ t. length (t .steps)) (Listing threads addresses (now (initial .exit)) (now (kinds .exit)) (now (firsts .exit)) (now (seconds .exit)) (now (values .exit))) (listing threads addresses (now (bytes .entry)) at) r ⌝ }
 {
@@ -378,21 +376,20 @@ fn read_body(bytes: &[u8], at: usize, threads: usize, addresses: usize) -> Trace
     let CountRead::Count(steps, length) = read else {
         return no_trace(reader::refused_count(read));
     };
-    let trace = Trace {
-        threads,
-        addresses,
-        initial,
-        steps,
-        kind,
-        first,
-        second,
-        value,
-    };
     TraceReading {
         number: 0,
         place: 0,
         length,
-        trace,
+        trace: Trace {
+            threads,
+            addresses,
+            initial,
+            steps,
+            kind,
+            first,
+            second,
+            value,
+        },
     }
 }
 

@@ -8,7 +8,7 @@ pub read-body-spec : {M : Type 1} → statement M
 read-body-spec =
     tie.close
     (tie.spec
-    (λ c κs. (search needs, (refl, no-steps)))
+    (λ c κs. ((search needs, refl), no-steps))
     (λ c. search needs)
     (λ c. search needs)
     (λ c κs. search needs)

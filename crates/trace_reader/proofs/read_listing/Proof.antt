@@ -20,7 +20,7 @@ read-listing-spec =
     (λ c κs. search needs)
     (λ c. search no-count)
     (λ c. search needs)
-    (λ c κs. (search, (search up-to-most, search)))
+    (λ c κs. ((search, search up-to-most), search))
     (λ c. search needs)
     (λ c. search needs)
     (λ c κs. search needs)
