@@ -1,16 +1,15 @@
 -- The fields of a step are read alike for every kind.
 -- Assumes nothing.
 use Prim.Native.Nat.{ℕ, zero, suc, _+_, _-_, _≤_, _<_}
-use mathlib.Core.Path.{_≡_, refl, sym, ap}
+use mathlib.Core.Path.{_≡_, refl}
 use mathlib.Core.Bool.{Bool, true, false, cond}
 use mathlib.Core.Logic.{⊎-elim}
-use mathlib.Core.List.{List}
 use native.Mathlib.Omega.{arith}
 use lib.Dec.{ltb}
 use lib.ListN.{drop}
-use borrow.Author.Tests.{lt-ltb, le-ltb, ltb-false}
+use borrow.Author.Tests.{lt-ltb, le-ltb}
 use Rattle.number.specs.Number.{Raw, got, short, wrong, groups, readGroups, finish, readNumber}
-use Rattle.number.specs.Reader.{Out, stop, tested, unless, upTo, below, under, numberOut}
+use Rattle.number.specs.Reader.{stop, tested, unless, upTo, below, under, numberOut}
 use Rattle.number.specs.declared.NumberRead.the-variants.{Number, Refused}
 use Rattle.storage_model.specs.Trace.{lwsync}
 use Rattle.number.proofs.Encoding.{lt-or-ge}
@@ -41,9 +40,9 @@ below-under : (b : ℕ) → 1 ≤ b → below b ≡ under b
 unfolding below under unless upTo readNumber
 below-under b l = λ i s at. below-raw b at l (readGroups groups 0 (drop at s)) i
 
-class-under : upTo lwsync ≡ under 2
+class-under : upTo lwsync ≡ under (suc lwsync)
 unfolding below
-class-under = below-under 2 (omega arith)
+class-under = below-under (suc lwsync) (omega arith)
 
 pub fields-alike : (n m w b kind : ℕ) → 1 ≤ n → 1 ≤ m → 1 ≤ kind → kind ≤ mostKind
     → fields n m w b kind ≡ anyFields kind (firstCount kind n w b) (secondCount kind n m w)

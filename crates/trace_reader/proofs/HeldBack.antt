@@ -1,11 +1,10 @@
 -- The struct that holds a trace has its steps.
 -- Assumes nothing.
-use Prim.Native.Nat.{ℕ, zero, suc, _+_, _≤_, _<_}
+use Prim.Native.Nat.{ℕ, zero, suc, _<_}
 use native.Mathlib.Omega.{arith}
 use mathlib.Core.Path.{_≡_, refl, sym, _∙_}
 use mathlib.Core.List.{List, [], _∷_, map}
 use lib.ListN.{length, getD, length-map}
-use Rattle.finite.specs.Lists.{table}
 use Rattle.finite.proofs.Lists.{table-same, as-table}
 use Rattle.storage_model.specs.Limits.{mostSteps}
 use Rattle.storage_model.specs.Trace.{Trace, Step, acceptWrite, acceptBarrier, propagateWrite, propagateBarrier, commit, respond, acknowledge}

@@ -3,3 +3,4 @@ pub mod OneStep
 pub mod AllSteps
 pub mod Whole
 pub mod HeldBack
+pub mod Found

@@ -7,7 +7,7 @@ use mathlib.Core.List.{List}
 use native.Mathlib.Omega.{arith}
 use mir.Syntax.{w8}
 use mir.Val.{Fits}
-use borrow.Author.Tests.{not-true, not-false, eq-eqb, ne-eqb, leb-true}
+use borrow.Author.Tests.{not-true, not-false, ne-eqb, leb-true}
 use Rattle.number.specs.Number.{readNumber}
 use Rattle.number.specs.Reader.{next, unless, upTo, within, under, numberOut, refusalOf}
 use Rattle.number.specs.declared.Refusal.{Refusal}

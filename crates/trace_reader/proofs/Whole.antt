@@ -1,12 +1,12 @@
 -- The ways through reading a whole trace.
 -- Assumes nothing.
-use Prim.Native.Nat.{ℕ, _≤_}
+use Prim.Native.Nat.{ℕ}
 use mathlib.Core.Path.{_≡_, refl, ap, sym, _∙_}
 use mathlib.Core.List.{List, []}
 use lib.ListN.{length, replicate}
 use borrow.Author.Tests.{leb-true}
 use Rattle.number.specs.Number.{readNumber}
-use Rattle.number.specs.Reader.{Out, stop, next, upTo, within, turns, times, numberOut, refusalOf}
+use Rattle.number.specs.Reader.{stop, next, upTo, within, turns, times, numberOut, refusalOf}
 use Rattle.number.specs.declared.Refusal.{Refusal}
 use Rattle.number.specs.declared.NumberRead.{NumberRead}
 use Rattle.number.specs.declared.NumberRead.the-variants.{Number, Refused}
@@ -23,7 +23,7 @@ use Rattle.reader.specs.declared.CountRead.the-variants as counted
 use Rattle.reader.proofs.Forward.{gone, forward-within}
 use Rattle.reader.proofs.Filling.{Done, next-of}
 use Rattle.reader.proofs.Fields.{number-stop, place-stop}
-use Rattle.reader.proofs.Whole.{Counted, counted-stop, counted-next}
+use Rattle.reader.proofs.Whole.{counted-stop, counted-next}
 use Rattle.trace_reader.specs.Held.{heldTrace, readingShown}
 use Rattle.trace_reader.specs.Fields.{Steps, Listing, listing}
 use Rattle.trace_reader.specs.declared.Trace.{Trace as Held}

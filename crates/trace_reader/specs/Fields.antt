@@ -1,6 +1,6 @@
 -- A step's fields read alike for every kind, and what the code's answers say.
 -- Assumes nothing.
-use Prim.Native.Nat.{ℕ}
+use Prim.Native.Nat.{ℕ, suc}
 use mathlib.Core.Path.{_≡_}
 use mathlib.Core.Bool.{Bool, cond, _||_}
 use mathlib.Core.List.{List, [], map}
@@ -8,7 +8,7 @@ use lib.Dec.{eqb}
 use Rattle.number.specs.Reader.{Out, stop, next, Reader, give, _>>=_, turns, times, upTo, under}
 use Rattle.model.specs.Limits.{mostAddresses, mostValue}
 use Rattle.storage_model.specs.Limits.{mostSteps}
-use Rattle.storage_model.specs.Trace.{Trace, Step}
+use Rattle.storage_model.specs.Trace.{Trace, Step, lwsync}
 use Rattle.storage_model.specs.Layout.{nextStep}
 use Rattle.case.specs.Held.{pad}
 use Rattle.reader.specs.Answers.{Padded}
@@ -27,7 +27,7 @@ hasValue kind = eqb kind 1 || eqb kind 6
 
 -- how many there are of what the second field names: the threads, unless it names an address, a class or a write
 unfoldable pub secondCount : (kind n m w : ℕ) → ℕ
-secondCount kind n m w = cond (hasValue kind) m (cond (eqb kind 2) 2 (cond (eqb kind 5) w n))
+secondCount kind n m w = cond (hasValue kind) m (cond (eqb kind 2) (suc lwsync) (cond (eqb kind 5) w n))
 
 -- the value, behind the first two fields
 unfoldable pub valueField : (kind first second : ℕ) → Reader Step

@@ -250,7 +250,7 @@ fn read_step(
     })
 }
 
-// 1 where two kinds are the same, otherwise 0.
+// What a step of a kind adds to the count of the steps of kind which.
 fn counted(kind: u8, which: u8) -> usize
     ensures { λ r. ⌜ (r ≡ tick (eqb kind which)) × (r ≤ 1) ⌝ }
 {

@@ -1,5 +1,4 @@
-use mathlib.Core.Path.{refl}
-use borrow.Author.Tests.{eq-eqb, ne-eqb}
+use borrow.Author.Tests.{ne-eqb}
 use Rattle.storage_model.specs.Layout.{roomFor}
 use Rattle.finite.proofs.Tests.{and-true}
 use Rattle.trace_reader.proofs.room_for.Statement.{statement}
