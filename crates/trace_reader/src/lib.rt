@@ -82,11 +82,7 @@ impl Trace {
 
     pub const MOST_KIND: u8 = Trace::ACKNOWLEDGE;
 
-    // the classes of barriers: sync and lwsync
-    pub const SYNC: u8 = 0;
-
-    pub const LWSYNC: u8 = 1;
-
+    // how many classes of barriers: sync and lwsync
     pub const CLASSES: usize = 2;
 
     // A trace with nothing in it, which no bytes give: what stands beside a refusal.
