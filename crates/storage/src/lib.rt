@@ -43,6 +43,8 @@ impl Storage {
 
     pub const LWSYNC: u8 = 1;
 
+    pub const CLASSES: usize = 2;
+
     // A state of no threads, with nothing in it: what stands beside a refusal.
     pub fn empty() -> Storage
         ensures { λ r. ⌜ r ≡ emptyStorage ⌝ }

@@ -17,6 +17,7 @@ use number::NumberRead;
 use number::Refusal;
 use reader::CountRead;
 use reader::PlaceRead;
+use storage::Storage;
 
 // A trace. Its fields and their order are those of litmus_steps in include/litmus.h.
 #[repr(C)]
@@ -60,11 +61,6 @@ pub enum StepRead {
 impl Trace {
     pub const MOST_STEPS: usize = 128;
 
-    // the most writes and barriers that a trace accepts
-    pub const MOST_WRITES: usize = 16;
-
-    pub const MOST_BARRIERS: usize = 8;
-
     // the kinds of steps
     pub const ACCEPT_WRITE: u8 = 1;
 
@@ -81,9 +77,6 @@ impl Trace {
     pub const ACKNOWLEDGE: u8 = 7;
 
     pub const MOST_KIND: u8 = Trace::ACKNOWLEDGE;
-
-    // how many classes of barriers: sync and lwsync
-    pub const CLASSES: usize = 2;
 
     // A trace with nothing in it, which no bytes give: what stands beside a refusal.
     pub fn empty() -> Trace
@@ -107,10 +100,10 @@ fn room_for(kind: u8, writes: usize, barriers: usize) -> bool
     ensures { λ r. ⌜ r ≡ roomFor writes barriers kind ⌝ }
 {
     if kind == Trace::ACCEPT_WRITE {
-        return writes < Trace::MOST_WRITES;
+        return writes < Storage::MOST_WRITES;
     }
     if kind == Trace::ACCEPT_BARRIER {
-        return barriers < Trace::MOST_BARRIERS;
+        return barriers < Storage::MOST_BARRIERS;
     }
     true
 }
@@ -156,7 +149,7 @@ fn second_count(kind: u8, threads: usize, addresses: usize, writes: usize) -> us
         return addresses;
     }
     if kind == Trace::ACCEPT_BARRIER {
-        return Trace::CLASSES;
+        return Storage::CLASSES;
     }
     if kind == Trace::COMMIT {
         return writes;
