@@ -1,11 +1,11 @@
 -- How many writes and barriers the steps of a trace accept.
 -- Assumes nothing.
-use Prim.Native.Nat.{ℕ, _+_, _≤_, _<_}
-use native.Mathlib.Nat.{add-assoc, add-zero}
+use Prim.Native.Nat.{ℕ, _+_, _≤_}
+use native.Mathlib.Nat.{add-assoc}
 use native.Mathlib.Omega.{arith}
-use mathlib.Core.Path.{_≡_, refl, sym, ap, _∙_}
+use mathlib.Core.Path.{_≡_, sym, ap, _∙_}
 use mathlib.Core.List.{List, [], _∷_, _++_}
-use lib.ListN.{length, length-append}
+use lib.ListN.{length-append}
 use Rattle.storage_model.specs.Limits.{mostWrites, mostBarriers}
 use Rattle.storage_model.specs.Trace.{Step, acceptWrite, acceptBarrier, propagateWrite, propagateBarrier, commit, respond, acknowledge, writesOf, barriersOf, writesIn, barriersIn}
 use Rattle.storage_model.specs.Subsystem.{State, writesSeen, barriersSeen, effect}

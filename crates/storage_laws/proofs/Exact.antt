@@ -1,26 +1,24 @@
 -- What was read of a trace is what is written of it, and a refusal's place is within the bytes.
 -- Assumes nothing.
-use Prim.Native.Nat.{ℕ, zero, suc, _+_, _≤_, _<_}
+use Prim.Native.Nat.{ℕ, _+_, _≤_, _<_}
 use native.Mathlib.Nat.{zero-add}
 use native.Mathlib.Omega.{arith}
 use native.Mathlib.Decide.{ℕ-discrete}
 use mathlib.Core.Path.{_≡_, refl, sym, ap, _∙_, subst}
-use mathlib.Core.Bool.{Bool, true, false, _&&_}
+use mathlib.Core.Bool.{true}
 use mathlib.Core.Logic.{_↔_}
 use mathlib.Core.List.{List, [], _∷_, _++_}
-use lib.Dec.{lit<, lit≤, ltb, eqb}
+use lib.Dec.{lit≤, ltb}
 use lib.ListN.{length, take, drop}
 use lib.Seq.{take-at}
 use borrow.Author.Tests.{ltb-true}
-use Rattle.finite.specs.Tests.{_⇒_}
-use Rattle.finite.specs.Lists.{each}
-use Rattle.finite.proofs.Tests.{and-l, and-r}
+use Rattle.finite.proofs.Tests.{and-l}
 use Rattle.number.specs.Number.{encode, Bytes}
-use Rattle.number.specs.Reader.{stop, next, Reader, unless, turns, another, times, upTo, within, below, under}
+use Rattle.number.specs.Reader.{next}
 use Rattle.model.specs.Limits.{mostThreads, mostAddresses, mostValue}
-use Rattle.codec.proofs.Exact.{Took, Malformed, Tells, Exact, As, exact-bind, exact-last, exact-fits, exact-unless, exact-up-to, exact-within, exact-below, exact-under, Along, grown, exact-list, exact-times}
+use Rattle.codec.proofs.Exact.{Took, Malformed, Tells, Exact, As, exact-bind, exact-last, exact-unless, exact-up-to, exact-within, exact-below, exact-under, Along, grown, exact-list, exact-times}
 use Rattle.storage_model.specs.Limits.{mostKind, mostSteps, mostWrites, mostBarriers}
-use Rattle.storage_model.specs.Trace.{Trace, Step, acceptWrite, acceptBarrier, propagateWrite, propagateBarrier, commit, respond, acknowledge, lwsync, writesIn, barriersIn}
+use Rattle.storage_model.specs.Trace.{Trace, Step, lwsync, writesIn, barriersIn}
 use Rattle.storage_model.specs.Layout.{acceptWriteFields, acceptBarrierFields, propagateWriteFields, propagateBarrierFields, commitFields, respondFields, acknowledgeFields, fields, roomFor, step, trace, readTrace}
 use Rattle.storage_model.specs.Written.{stepBytes, traceBytes}
 use Rattle.storage_model.specs.Fits.{StepFits, StepsFit, Fits}

@@ -1,16 +1,13 @@
 -- The closure of a relation is the least transitive relation that holds it.
 -- Assumes nothing.
-use Prim.Native.Nat.{ℕ, zero, suc, _+_, _≤_, _<_}
-use native.Mathlib.Nat.{zero-add, le-refl}
+use Prim.Native.Nat.{ℕ, zero, suc, _<_}
 use native.Mathlib.Omega.{arith}
 use native.Mathlib.Decide.{decLt, ℕ-discrete}
-use mathlib.Core.Path.{_≡_, refl, sym, ap, _∙_, subst}
-use mathlib.Core.Bool.{Bool, true, false, not, _&&_, _||_, true≢false, false≢true}
-use mathlib.Core.Logic.{_⊎_, inl, inr, ⊎-elim}
-use mathlib.Core.List.{List, []}
-use lib.ListN.{getD}
+use mathlib.Core.Path.{_≡_, sym, ap, _∙_}
+use mathlib.Core.Bool.{Bool, true, false, not, _&&_, _||_, true≢false}
+use mathlib.Core.Logic.{_⊎_, inl, inr}
+use mathlib.Core.List.{[]}
 use borrow.Author.Tests.{not-true}
-use Rattle.finite.specs.Tests.{all}
 use Rattle.finite.specs.Lists.{table}
 use Rattle.finite.proofs.Tests.{and-l, and-r, and-i, or-l, or-r, or-e, all-get, all-make, is-false}
 use Rattle.finite.proofs.Lists.{table-get, table-past, table-same}

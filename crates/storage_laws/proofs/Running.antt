@@ -1,17 +1,16 @@
 -- What holds at each turn of the loop that takes a trace's steps.
 -- Assumes nothing.
-use Prim.Native.Nat.{ℕ, zero, suc, _+_, _-_, _≤_, _<_}
+use Prim.Native.Nat.{ℕ, suc, _+_, _-_, _≤_, _<_}
 use native.Mathlib.Numerals.{add-one}
 use native.Mathlib.Omega.{arith}
-use mathlib.Core.Path.{_≡_, refl, sym, ap, ap₂, _∙_}
+use mathlib.Core.Path.{_≡_, sym, ap, ap₂, _∙_}
 use mathlib.Core.Bool.{Bool, true, false, cond}
-use mathlib.Core.List.{List, [], _∷_}
 use lib.Dec.{eqb}
 use borrow.Author.Tests.{eq-eqb, ne-eqb}
 use Rattle.finite.specs.Lists.{table}
 use Rattle.finite.proofs.Lists.{table-turn, table-end}
 use Rattle.storage_model.specs.Trace.{Step}
-use Rattle.storage_model.specs.Subsystem.{State, enabled, failing, effect, Ran, refused, accepted, runFrom}
+use Rattle.storage_model.specs.Subsystem.{State, failing, effect, refused, accepted, runFrom}
 use Rattle.storage_laws.proofs.Failing.{enabled-failing}
 
 -- the steps from i on, taken from now, end as all of them do from the start

@@ -2,12 +2,12 @@
 -- writes to an address in coherence order".
 -- Assumes nothing.
 use Prim.Native.Nat.{ℕ, zero, suc, _+_, _≤_, _<_}
-use native.Mathlib.Nat.{le-refl, add-zero}
+use native.Mathlib.Nat.{le-refl}
 use native.Mathlib.Numerals.{add-one}
 use native.Mathlib.Omega.{arith}
 use native.Mathlib.Decide.{decLt, ℕ-discrete}
 use mathlib.Core.Path.{_≡_, refl, sym, ap, _∙_, subst}
-use mathlib.Core.Bool.{Bool, true, false, not, _&&_, _||_, true≢false, false≢true}
+use mathlib.Core.Bool.{Bool, true, false, _&&_, _||_, false≢true}
 use mathlib.Core.Logic.{_⊎_, inl, inr, ⊎-elim}
 use mathlib.Core.List.{List, [], _∷_, _++_}
 use lib.Dec.{eqb}
@@ -16,10 +16,9 @@ use lib.Seq.{getD-append-seam, getD-set-same, getD-set-other}
 use borrow.Author.Tests.{eq-eqb, eqb-true, not-true}
 use Rattle.finite.specs.Tests.{_⇒_}
 use Rattle.finite.proofs.Tests.{and-l, and-r, and-i, or-l, or-r, or-e, imp-e, all-get, is-false}
-use Rattle.storage_model.specs.Limits.{mostWrites}
 use Rattle.storage_model.specs.Trace.{Step, acceptWrite, acceptBarrier, propagateWrite, propagateBarrier, commit, respond, acknowledge, sync}
-use Rattle.storage_model.specs.Relation.{Relation, related, closure}
-use Rattle.storage_model.specs.Subsystem.{State, Write, Barrier, Event, write, barrier, same, member, precedes, noWrite, noBarrier, address, class, events, arrived, coherent, separated, writesSeen, barriersSeen, writeIsNew, writeIsAfter, barriersWentBefore, barrierIsNew, groupAWentBefore, committed, toOneAddress, unrelated, acyclicWith, unacknowledgedSync, everywhere, enabled, appended, followed, effect, initial}
+use Rattle.storage_model.specs.Relation.{related, closure}
+use Rattle.storage_model.specs.Subsystem.{State, Write, Barrier, Event, write, barrier, member, precedes, noWrite, noBarrier, address, class, events, arrived, coherent, separated, writesSeen, barriersSeen, writeIsNew, writeIsAfter, barriersWentBefore, barrierIsNew, groupAWentBefore, committed, toOneAddress, unrelated, acyclicWith, unacknowledgedSync, enabled, appended, followed, effect, initial}
 use Rattle.storage_model.specs.Fits.{StepFits}
 use Rattle.storage_model.specs.Sound.{Ordered, Listed, Syncs, Sound}
 use Rattle.storage_laws.proofs.Relations.{closure-within, closure-holds, closure-transitive, closure-least, acyclic-is}

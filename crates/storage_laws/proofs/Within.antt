@@ -1,18 +1,18 @@
 -- The state keeps the limits after every step that fits.
 -- Assumes nothing.
-use Prim.Native.Nat.{ℕ, suc, _+_, _≤_, _<_}
+use Prim.Native.Nat.{ℕ, suc, _+_, _≤_}
 use native.Mathlib.Numerals.{add-one}
 use native.Mathlib.Omega.{arith}
-use mathlib.Core.Path.{_≡_, refl, sym, ap, _∙_}
+use mathlib.Core.Path.{_≡_, refl, _∙_}
 use mathlib.Core.Bool.{Bool}
 use mathlib.Core.List.{List, [], _∷_, _++_}
-use lib.ListN.{length, getD, set, replicate, length-append, length-set, length-replicate}
+use lib.ListN.{length, getD, length-append, length-set, length-replicate}
 use Rattle.finite.specs.Lists.{table, All}
 use Rattle.finite.proofs.All.{all-append}
 use Rattle.model.specs.Limits.{mostThreads, mostAddresses, mostValue}
 use Rattle.storage_model.specs.Limits.{mostWrites, mostBarriers}
 use Rattle.storage_model.specs.Trace.{Step, acceptWrite, acceptBarrier, propagateWrite, propagateBarrier, commit, respond, acknowledge}
-use Rattle.storage_model.specs.Relation.{Relation, relation, related, closure}
+use Rattle.storage_model.specs.Relation.{Relation, relation, related}
 use Rattle.storage_model.specs.Subsystem.{State, Write, Barrier, Event, coherent, writesSeen, barriersSeen, committed, appended, followed, effect, initial}
 use Rattle.storage_model.specs.Fits.{StepFits}
 use Rattle.storage_model.specs.Sound.{Within, WriteWithin, BarrierWithin}
