@@ -4,12 +4,13 @@ pub mod Counts
 pub mod Failing
 pub mod Listed
 pub mod Sound
+pub mod Short
 pub mod Within
 pub mod Coherence
+pub mod Behind
 pub mod Run
-pub mod Running
 pub mod Acknowledged
-pub mod Short
+pub mod Running
 pub mod ReadBack
 pub mod Exact
 pub mod Refusals

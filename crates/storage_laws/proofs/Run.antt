@@ -8,14 +8,12 @@ use mathlib.Core.Bool.{Bool, true, false, cond}
 use mathlib.Core.Logic.{_↔_}
 use mathlib.Core.List.{List, [], _∷_, _++_, append-nil}
 use lib.ListN.{length}
-use Rattle.storage_model.specs.Trace.{Trace, Step, writesOf, barriersOf, writesIn, barriersIn}
-use Rattle.storage_model.specs.Subsystem.{State, writesSeen, barriersSeen, enabled, failing, effect, initial, Ran, refused, accepted, runFrom, run}
-use Rattle.storage_model.specs.Fits.{StepFits, StepsFit, Fits}
+use Rattle.storage_model.specs.Trace.{Trace, Step}
+use Rattle.storage_model.specs.Subsystem.{State, enabled, failing, effect, initial, Ran, refused, accepted, runFrom, run}
+use Rattle.storage_model.specs.Fits.{Fits}
 use Rattle.storage_model.specs.Sound.{Sound, Within}
 use Rattle.storage_model.specs.Runs.{Enabled, Stops}
-use Rattle.storage_laws.proofs.Counts.{writes-grown, barriers-grown, seen-step}
-use Rattle.storage_laws.proofs.Sound.{sound-step, sound-initial}
-use Rattle.storage_laws.proofs.Within.{within-step, within-initial, limits-stay}
+use Rattle.storage_laws.proofs.Behind.{Behind, behind-none, behind-steps}
 
 -- ---- what a run answers
 
@@ -97,64 +95,26 @@ refused-iff t i c = (
       ∙ rw (zero-add, h .not-enabled, h .place, h .condition),
 )
 
--- ---- what every step keeps
-
-fits-front : (n m : ℕ) (before xs ys : List Step) → StepsFit n m before (xs ++ ys) → StepsFit n m before xs
-fits-front n m before [] ys F = tt
-fits-front n m before (x ∷ xs) ys F = (F .0, fits-front n m (before ++ (x ∷ [])) xs ys (F .1))
-
-module _ (n m : ℕ) (P : State → Type 0)
-    (keeps : (s : State) (x : Step) → P s → StepFits n m (writesSeen s) (barriersSeen s) x → enabled s x ≡ true → P (effect s x)) where
-  kept-from : (before xs : List Step) (s e : State) → P s → writesSeen s ≡ writesIn before → barriersSeen s ≡ barriersIn before
-      → StepsFit n m before xs → Enabled s xs e → P e
-  kept-from before [] s e p w b F h = subst P h p
-  kept-from before (x ∷ xs) s e p w b F h =
-      let fits : StepFits n m (writesSeen s) (barriersSeen s) x = rw (w, b) (F .0) in
-      let seen = seen-step s x in
-      kept-from (before ++ (x ∷ [])) xs (effect s x) e (keeps s x p fits (h .0)) (seen .0 ∙ ap (λ (k : ℕ). k + writesOf x) w ∙ sym (writes-grown before x))
-      (seen .1 ∙ ap (λ (k : ℕ). k + barriersOf x) b ∙ sym (barriers-grown before x)) (F .1) (h .1)
-
--- what every step keeps holds after any of a trace's first steps, where these are enabled
-kept : (t : Trace) → Fits t → (P : State → Type 0) → P (begin t)
-    → ((s : State) (x : Step) → P s → StepFits (t .n) (t .m) (writesSeen s) (barriersSeen s) x → enabled s x ≡ true → P (effect s x))
-    → (done rest : List Step) → t .steps ≡ done ++ rest → (s : State) → Enabled (begin t) done s → P s
-kept t F P p keeps done rest e s h =
-    kept-from (t .n) (t .m) P keeps [] done (begin t) s p (unfold initial writesIn in refl) (unfold initial barriersIn in refl)
-    (fits-front (t .n) (t .m) [] done rest (subst (StepsFit (t .n) (t .m) []) e (F .steps))) h
+-- ---- after any of a trace's first steps, where these are enabled
 
 module _ (t : Trace) (F : Fits t) (s : State) where
-  -- after any of a trace's first steps, where these are enabled
-  pub sound : (done rest : List Step) → t .steps ≡ done ++ rest → Enabled (initial (t .n) (t .initials)) done s → Sound s
-  sound done rest e h =
-      kept t F Sound (sound-initial (t .n) (t .initials)) (λ s x S fits on. sound-step (t .n) (t .m) s S x fits on) done rest e s h
+  module _ (done rest : List Step) (e : t .steps ≡ done ++ rest) (h : Enabled (initial (t .n) (t .initials)) done s) where
+    behind : Behind (t .n) (t .m) done rest s
+    behind = behind-steps [] done rest (begin t) s (subst (λ (xs : List Step). Behind (t .n) (t .m) [] xs (begin t)) e (behind-none t F)) h
 
-  pub within : (done rest : List Step) → t .steps ≡ done ++ rest → Enabled (initial (t .n) (t .initials)) done s → Within s
-  within done rest e h = kept t F Here begun next done rest e s h .0
-    where
-      Here : State → Type 0
-      Here s = Within s × (s .threads ≡ t .n) × (s .initials ≡ t .initials)
+    pub sound : Sound s
+    sound = behind .sound
 
-      begun : Here (begin t)
-      begun = (
-        within-initial (t .n) (t .initials) (F .n-most) (rw (← F .m) (F .m-most)) (F .initials),
-        unfold initial in refl,
-        unfold initial in refl,
-      )
-
-      next : (s : State) (x : Step) → Here s → StepFits (t .n) (t .m) (writesSeen s) (barriersSeen s) x → enabled s x ≡ true → Here (effect s x)
-      next s x h fits on = (
-        within-step s (h .0) x (rw (h .1, h .2, ← F .m) fits),
-        limits-stay s x .0 ∙ h .1,
-        limits-stay s x .1 ∙ h .2,
-      )
+    pub within : Within s
+    within = behind .limits
 
   -- the end state of an accepted trace
   module _ (h : run t ≡ accepted s) where
-    all-done : (P : State → Type 0) → ((done rest : List Step) → t .steps ≡ done ++ rest → Enabled (begin t) done s → P s) → P s
-    all-done P f = f (t .steps) [] (sym (append-nil (t .steps))) (accepted-iff t s .0 h)
+    end : Behind (t .n) (t .m) (t .steps) [] s
+    end = behind (t .steps) [] (sym (append-nil (t .steps))) (accepted-iff t s .0 h)
 
     pub sound-end : Sound s
-    sound-end = all-done Sound sound
+    sound-end = end .sound
 
     pub within-end : Within s
-    within-end = all-done Within within
+    within-end = end .limits

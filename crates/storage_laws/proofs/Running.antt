@@ -5,13 +5,16 @@ use native.Mathlib.Numerals.{add-one}
 use native.Mathlib.Omega.{arith}
 use mathlib.Core.Path.{_≡_, sym, ap, ap₂, _∙_}
 use mathlib.Core.Bool.{Bool, true, false, cond}
+use mathlib.Core.List.{_∷_}
 use lib.Dec.{eqb}
 use borrow.Author.Tests.{eq-eqb, ne-eqb}
 use Rattle.finite.specs.Lists.{table}
-use Rattle.finite.proofs.Lists.{table-turn, table-end}
-use Rattle.storage_model.specs.Trace.{Step}
-use Rattle.storage_model.specs.Subsystem.{State, failing, effect, refused, accepted, runFrom}
+use Rattle.finite.proofs.Lists.{table-more, table-turn, table-end}
+use Rattle.storage_model.specs.Trace.{Trace, Step}
+use Rattle.storage_model.specs.Subsystem.{State, writesSeen, barriersSeen, failing, effect, initial, refused, accepted, runFrom}
+use Rattle.storage_model.specs.Fits.{StepFits, Fits}
 use Rattle.storage_laws.proofs.Failing.{enabled-failing}
+use Rattle.storage_laws.proofs.Behind.{Behind, behind-none, step-fits, behind-step}
 
 -- the steps from i on, taken from now, end as all of them do from the start
 pub record Running (start : State) (xs : ℕ → Step) (count i : ℕ) (now : State) : Type 0 where
@@ -45,3 +48,23 @@ module _ {start : State} {xs : ℕ → Step} {count : ℕ} where
   pub running-ends : {i : ℕ} {now : State} → Running start xs count i now → count ≤ i → accepted now ≡ runFrom 0 start (table 0 count xs)
   unfolding runFrom
   running-ends {i} {now} R l = sym (ap (runFrom i now) (table-end i count xs l)) ∙ R .same
+
+-- the state behind the first i steps, from turn to turn
+pub record BehindAt (n m : ℕ) (xs : ℕ → Step) (count i : ℕ) (now : State) : Type 0 where
+  pub state : Behind n m (table 0 i xs) (table i (count - i) xs) now
+
+pub behind-begun : (t : Trace) → Fits t → (xs : ℕ → Step) (count : ℕ) → t .steps ≡ table 0 count xs → BehindAt (t .n) (t .m) xs count 0 (initial (t .n) (t .initials))
+unfolding table
+behind-begun t F xs count e = record { state = let z : count - 0 ≡ count = omega arith in rw (z, ← e) (behind-none t F) }
+
+module _ {n m : ℕ} {xs : ℕ → Step} {count i : ℕ} {now : State} (B : BehindAt n m xs count i now) (l : i < count) where
+  here : Behind n m (table 0 i xs) (xs i ∷ table (i + 1) (count - (i + 1)) xs) now
+  here = rw (← table-turn i count xs l) (B .state)
+
+  pub step-fits-at : StepFits n m (writesSeen now) (barriersSeen now) (xs i)
+  step-fits-at = step-fits here
+
+  pub behind-more : {c : ℕ} → c ≡ failing now (xs i) → c ≡ 0 → (next : State) → next ≡ effect now (xs i) → BehindAt n m xs count (i + 1) next
+  behind-more e z next f = record {
+    state = rw (f, table-more i xs) (behind-step here (enabled-failing now (xs i) ∙ eq-eqb (failing now (xs i)) 0 (sym e ∙ z)));
+  }
