@@ -2,17 +2,17 @@
 -- Assumes nothing.
 use Prim.Native.Nat.{ℕ, zero, suc, _<_}
 use native.Mathlib.Omega.{arith}
-use mathlib.Core.Path.{_≡_, refl, sym, subst}
+use mathlib.Core.Path.{_≡_, refl, sym, _∙_, subst}
 use mathlib.Core.Bool.{Bool, true, _&&_, _||_, false≢true}
 use mathlib.Core.Logic.{_⊎_, inl, inr}
 use lib.Dec.{eqb}
 use borrow.Author.Tests.{eq-eqb, eqb-true}
 use Rattle.finite.specs.Tests.{some}
 use Rattle.finite.proofs.Tests.{iff, and-l, and-r, and-i, or-l, or-r, or-e, some-make, eqb-sym}
-use Rattle.storage_model.specs.Relation.{related, closure}
+use Rattle.storage_model.specs.Relation.{relation, related, closure}
 use Rattle.storage_model.specs.Subsystem.{State, write, address, arrived, coherent, writesSeen, committed, followed}
 use Rattle.storage_model.specs.Sound.{Sound}
-use Rattle.storage_laws.proofs.Relations.{closure-holds, closure-transitive, closure-least}
+use Rattle.storage_laws.proofs.Relations.{relation-same, closure-holds, closure-transitive, closure-least, closure-table}
 
 -- what passes at some number
 some-out : {G : Type 0} (n : ℕ) (p : ℕ → Bool) → some n p ≡ true → ((i : ℕ) → i < n → p i ≡ true → G) → G
@@ -117,6 +117,12 @@ module _ (s : State) (S : Sound s) where
           let k = writesSeen s in
           old-then k _ (omega arith) a x b (to a b h) (then-old k _ (omega arith) x y b edge (from a b h))
 
+  pub committed-is : (x y : ℕ) → x < writesSeen s → y < writesSeen s
+      → committed s x y ≡ relation (writesSeen s) (λ a b. coherent s a b || ((eqb a x || coherent s a x) && (eqb b y || coherent s y b)))
+  committed-is x y lx ly =
+      let table : committed s x y ≡ relation (writesSeen s) (related (committed s x y)) = unfold committed in closure-table (writesSeen s) _ in
+      table ∙ relation-same (writesSeen s) _ _ (λ a b _ _. committed-at x y a b lx ly)
+
   -- a write to address a accepted of thread t: the writes up to those to a that have been propagated to t are before it
   pub followed-at : (t a v w : ℕ)
       → related (followed s t a) v w
@@ -172,3 +178,10 @@ module _ (s : State) (S : Sound s) where
           old-then (suc n) (λ v w. eqb w n && there v) (omega arith) v y w q
           (closure-holds (suc n) (λ v w. coherent s v w || (eqb w n && there v)) y w (omega arith) (omega (arith, e))
           (or-r (coherent s y w) (eqb w n && there y) (and-i (eqb w n) (there y) (eq-eqb w n e) p))))
+
+  pub followed-is : (t a : ℕ)
+      → followed s t a
+      ≡ relation (suc (writesSeen s)) (λ v w. coherent s v w || (eqb w (writesSeen s) && some (writesSeen s) (λ y. (arrived s (write y) t && eqb (address s y) a) && (eqb v y || coherent s v y))))
+  followed-is t a =
+      let table : followed s t a ≡ relation (suc (writesSeen s)) (related (followed s t a)) = unfold followed in closure-table (suc (writesSeen s)) _ in
+      table ∙ relation-same (suc (writesSeen s)) _ _ (λ v w _ _. followed-at t a v w)

@@ -3,7 +3,6 @@
 -- Assumes nothing.
 use Prim.Native.Nat.{ℕ, zero, suc, _+_, _≤_, _<_}
 use native.Mathlib.Nat.{le-refl}
-use native.Mathlib.Numerals.{add-one}
 use native.Mathlib.Omega.{arith}
 use native.Mathlib.Decide.{decLt, ℕ-discrete}
 use mathlib.Core.Path.{_≡_, refl, sym, ap, _∙_, subst}
@@ -11,7 +10,7 @@ use mathlib.Core.Bool.{Bool, true, false, _&&_, _||_, false≢true}
 use mathlib.Core.Logic.{_⊎_, inl, inr, ⊎-elim}
 use mathlib.Core.List.{List, [], _∷_, _++_}
 use lib.Dec.{eqb}
-use lib.ListN.{length, getD, set, replicate, length-append, length-set, List·getD-append, List·getD-eq-default}
+use lib.ListN.{length, getD, set, replicate, length-set, List·getD-append, List·getD-eq-default}
 use lib.Seq.{getD-append-seam, getD-set-same, getD-set-other}
 use borrow.Author.Tests.{eq-eqb, eqb-true, not-true}
 use Rattle.finite.specs.Tests.{_⇒_}
@@ -22,13 +21,14 @@ use Rattle.storage_model.specs.Subsystem.{State, Write, Barrier, Event, write, 
 use Rattle.storage_model.specs.Fits.{StepFits}
 use Rattle.storage_model.specs.Sound.{Ordered, Listed, Syncs, Sound}
 use Rattle.storage_laws.proofs.Relations.{closure-within, closure-holds, closure-transitive, closure-least, acyclic-is}
+use Rattle.storage_laws.proofs.Lists.{one-more}
 use Rattle.storage_laws.proofs.Listed.{Grows, listed-more, listed-write, listed-barrier, lists-append}
 
 -- ---- the writes seen, with one more
 
 module _ (s s′ : State) (x : Write) (p : s′ .writes ≡ s .writes ++ (x ∷ [])) where
-  one-more : writesSeen s′ ≡ suc (writesSeen s)
-  one-more = ap length p ∙ length-append (s .writes) (x ∷ []) ∙ add-one (writesSeen s)
+  seen-more : writesSeen s′ ≡ suc (writesSeen s)
+  seen-more = ap length p ∙ one-more (s .writes) x
 
   old-address : (w : ℕ) → w < writesSeen s → address s′ w ≡ address s w
   unfolding address
@@ -61,7 +61,7 @@ grows-stays s t w c l = record {
   barriers = l;
 }
 
--- t has the barriers of s, and as many of them are to be acknowledged
+-- t has the barriers of s, and the same of them are to be acknowledged
 syncs-stays : (s t : State) → t .barriers ≡ s .barriers → t .unacknowledged ≡ s .unacknowledged → Syncs s → Syncs t
 unfolding unacknowledgedSync class
 syncs-stays s t b u Y = record { as-many = rw (b, u) (Y .as-many); syncs = λ x. rw (b, u) (Y .syncs x) }
@@ -89,7 +89,7 @@ module _ (s : State) (S : Sound s) where
     co₁ y z = refl
 
     seen₁ : writesSeen s₁ ≡ suc (writesSeen s)
-    seen₁ = one-more s s₁ x writes₁
+    seen₁ = seen-more s s₁ x writes₁
 
     -- an edge is an old one, or leads to the new write
     edge-is : (y z : ℕ) → edges y z ≡ true
@@ -184,7 +184,7 @@ module _ (s : State) (S : Sound s) where
 
     seen₂ : barriersSeen s₂ ≡ suc (barriersSeen s)
     unfolding s₂ effect
-    seen₂ = length-append (s .barriers) (y₂ ∷ []) ∙ add-one (barriersSeen s)
+    seen₂ = one-more (s .barriers) y₂
 
     grows₂ : Grows s s₂
     grows₂ = grows-stays s s₂ (unfold s₂ effect in refl) (unfold s₂ effect in refl) (omega (arith, seen₂))
@@ -212,7 +212,7 @@ module _ (s : State) (S : Sound s) where
             ap (λ (i : ℕ). getD (s .barriers ++ (y₂ ∷ [])) i noBarrier .class) e
             ∙ ap (λ (z : Barrier). z .class) (getD-append-seam (s .barriers) y₂ [] noBarrier) ∙ eqb-true c sync z
         by (no l) (no d) =
-            let m : length (s .unacknowledged ++ (eqb c sync ∷ [])) ≡ length (s .unacknowledged) + 1 = length-append (s .unacknowledged) (eqb c sync ∷ []) in
+            let m = one-more (s .unacknowledged) (eqb c sync) in
             absurd (false≢true (sym (List·getD-eq-default (s .unacknowledged ++ (eqb c sync ∷ [])) false (omega (arith, m, n))) ∙ h))
 
     pub sound-accept-barrier : Sound (effect s (acceptBarrier t c))
@@ -221,7 +221,7 @@ module _ (s : State) (S : Sound s) where
       lists = lists-append s s₂ t (barrier (barriersSeen s)) (unfold effect in refl) (λ u. listed-more s s₂ (events s u) grows₂ (S .lists u))
           (listed-barrier s₂ (events s t) (barriersSeen s) (listed-more s s₂ (events s t) grows₂ (S .lists t)) new-barrier (omega (arith, seen₂)));
       syncs = unfold effect unacknowledgedSync class in record {
-        as-many = length-append (s .unacknowledged) (eqb c sync ∷ []) ∙ ap (λ (i : ℕ). i + 1) (S .syncs .as-many) ∙ sym (length-append (s .barriers) (y₂ ∷ []));
+        as-many = one-more (s .unacknowledged) (eqb c sync) ∙ ap suc (S .syncs .as-many) ∙ sym (one-more (s .barriers) y₂);
         syncs = syncs₂;
       };
     }

@@ -1,12 +1,11 @@
 -- The state keeps the limits after every step that fits.
 -- Assumes nothing.
 use Prim.Native.Nat.{ℕ, suc, _+_, _≤_}
-use native.Mathlib.Numerals.{add-one}
 use native.Mathlib.Omega.{arith}
 use mathlib.Core.Path.{_≡_, refl, _∙_}
 use mathlib.Core.Bool.{Bool}
 use mathlib.Core.List.{List, [], _∷_, _++_}
-use lib.ListN.{length, getD, length-append, length-set, length-replicate}
+use lib.ListN.{length, getD, length-set, length-replicate}
 use Rattle.finite.specs.Lists.{table, All}
 use Rattle.finite.proofs.All.{all-append}
 use Rattle.model.specs.Limits.{mostThreads, mostAddresses, mostValue}
@@ -16,15 +15,12 @@ use Rattle.storage_model.specs.Relation.{Relation, relation, related}
 use Rattle.storage_model.specs.Subsystem.{State, Write, Barrier, Event, coherent, writesSeen, barriersSeen, committed, appended, followed, effect, initial}
 use Rattle.storage_model.specs.Fits.{StepFits}
 use Rattle.storage_model.specs.Sound.{Within, WriteWithin, BarrierWithin}
+use Rattle.storage_laws.proofs.Lists.{one-more}
 use Rattle.storage_laws.proofs.Relations.{closure-table}
 
 -- as many lists as before
 appended-length : (ls : List (List Event)) (t : ℕ) (e : Event) → length (appended ls t e) ≡ length ls
 appended-length ls t e = length-set ls t (getD ls t [] ++ (e ∷ []))
-
--- a list with one more at its end
-one-more : {A : Type 0} (l : List A) (x : A) → length (l ++ (x ∷ [])) ≡ suc (length l)
-one-more l x = length-append l (x ∷ []) ∙ add-one (length l)
 
 -- a state of as many threads and addresses: its writes, barriers and lists keep the limits
 kept : (s : State) → Within s → (ws : List Write) (co : Relation) (bs : List Barrier) (ls : List (List Event)) (us : List Bool)
