@@ -24,6 +24,7 @@ pub record Behind (n m : ℕ) (before rest : List Step) (now : State) : Type 0 w
   pub barriers : barriersSeen now ≡ barriersIn before
   pub fits : StepsFit n m before rest
 
+-- before the first step of a trace
 pub behind-none : (t : Trace) → Fits t → Behind (t .n) (t .m) [] (t .steps) (initial (t .n) (t .initials))
 behind-none t F = record {
   sound = sound-initial (t .n) (t .initials);
@@ -40,6 +41,7 @@ module _ {n m : ℕ} {before rest : List Step} {now : State} {x : Step} (B : Beh
   pub step-fits : StepFits n m (writesSeen now) (barriersSeen now) x
   step-fits = rw (B .writes, B .barriers) (B .fits .0)
 
+  -- one step more
   pub behind-step : enabled now x ≡ true → Behind n m (before ++ (x ∷ [])) rest (effect now x)
   behind-step on =
       let seen = seen-step now x in
@@ -54,6 +56,7 @@ module _ {n m : ℕ} {before rest : List Step} {now : State} {x : Step} (B : Beh
         fits = B .fits .1;
       }
 
+-- some steps more
 pub behind-steps : {n m : ℕ} (before done rest : List Step) (s e : State) → Behind n m before (done ++ rest) s → Enabled s done e → Behind n m (before ++ done) rest e
 behind-steps before [] rest s e B h = rw (append-nil before) (subst (Behind _ _ before rest) h B)
 behind-steps before (x ∷ done) rest s e B h =

@@ -76,12 +76,15 @@ few-trace t F =
     then each-few stepBytes mostStepBytes (t .steps)
     (few-steps (t .n) (t .m) (F .n-most) (F .m-most) [] (t .steps) (unfold writesIn in lit≤ tt) (unfold barriersIn in lit≤ tt) (F .steps)) mostSteps (F .steps-most)
 
+-- a trace takes at most so many bytes
 pub trace-most : (t : Trace) → Fits t → length (traceBytes t) ≤ mostTraceBytes
 trace-most t F = few-trace t F .most
 
+-- each of them is a byte
 pub bytes-of-trace : (t : Trace) → Fits t → Bytes (traceBytes t)
 bytes-of-trace t F = few-trace t F .bytes
 
+-- with the limits as they are
 pub most-is : mostTraceBytes ≡ 1048
 unfolding mostTraceBytes mostStepBytes encode encodeBy
 most-is = refl
@@ -102,6 +105,7 @@ unfolding table
 responses-fit i zero before = tt
 responses-fit i (suc j) before = ((lit< tt, lit< tt, le-refl mostValue), responses-fit (suc i) j (before ++ (respond (mostThreads - 1) (mostAddresses - 1) mostValue ∷ [])))
 
+-- it keeps the limits
 pub greatest-fits : Fits greatest
 unfolding greatest
 greatest-fits = record {
@@ -115,6 +119,7 @@ greatest-fits = record {
   steps = responses-fit 0 mostSteps [];
 }
 
+-- and takes the most bytes
 pub most-reached : length (traceBytes greatest) ≡ mostTraceBytes
 unfolding greatest table each encode encodeBy stepBytes traceBytes mostTraceBytes mostStepBytes
 most-reached = refl

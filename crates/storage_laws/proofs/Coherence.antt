@@ -117,6 +117,7 @@ module _ (s : State) (S : Sound s) where
           let k = writesSeen s in
           old-then k _ (omega arith) a x b (to a b h) (then-old k _ (omega arith) x y b edge (from a b h))
 
+  -- the whole table
   pub committed-is : (x y : ℕ) → x < writesSeen s → y < writesSeen s
       → committed s x y ≡ relation (writesSeen s) (λ a b. coherent s a b || ((eqb a x || coherent s a x) && (eqb b y || coherent s y b)))
   committed-is x y lx ly =
@@ -179,6 +180,7 @@ module _ (s : State) (S : Sound s) where
           (closure-holds (suc n) (λ v w. coherent s v w || (eqb w n && there v)) y w (omega arith) (omega (arith, e))
           (or-r (coherent s y w) (eqb w n && there y) (and-i (eqb w n) (there y) (eq-eqb w n e) p))))
 
+  -- the whole table
   pub followed-is : (t a : ℕ)
       → followed s t a
       ≡ relation (suc (writesSeen s)) (λ v w. coherent s v w || (eqb w (writesSeen s) && some (writesSeen s) (λ y. (arrived s (write y) t && eqb (address s y) a) && (eqb v y || coherent s v y))))

@@ -11,6 +11,7 @@ use Rattle.storage_model.specs.Trace.{Step, acceptWrite, acceptBarrier, propaga
 use Rattle.storage_model.specs.Subsystem.{State, writesSeen, barriersSeen, effect}
 use Rattle.storage_model.specs.Fits.{StepFits}
 
+-- one step more
 pub writes-grown : (before : List Step) (x : Step) → writesIn (before ++ (x ∷ [])) ≡ writesIn before + writesOf x
 unfolding writesIn
 writes-grown [] x = omega arith
@@ -34,7 +35,7 @@ seen-step s (respond t a v) = (omega arith, omega arith)
 seen-step s (acknowledge b) = (omega arith, omega arith)
 
 -- no more than there may be
-pub few-writes : (n m w b : ℕ) (x : Step) → StepFits n m w b x → w ≤ mostWrites → w + writesOf x ≤ mostWrites
+few-writes : (n m w b : ℕ) (x : Step) → StepFits n m w b x → w ≤ mostWrites → w + writesOf x ≤ mostWrites
 few-writes n m w b (acceptWrite t a v) F l = omega (arith, F .0)
 few-writes n m w b (acceptBarrier t c) F l = omega arith
 few-writes n m w b (propagateWrite x t) F l = omega arith
@@ -43,7 +44,7 @@ few-writes n m w b (commit x y) F l = omega arith
 few-writes n m w b (respond t a v) F l = omega arith
 few-writes n m w b (acknowledge x) F l = omega arith
 
-pub few-barriers : (n m w b : ℕ) (x : Step) → StepFits n m w b x → b ≤ mostBarriers → b + barriersOf x ≤ mostBarriers
+few-barriers : (n m w b : ℕ) (x : Step) → StepFits n m w b x → b ≤ mostBarriers → b + barriersOf x ≤ mostBarriers
 few-barriers n m w b (acceptWrite t a v) F l = omega arith
 few-barriers n m w b (acceptBarrier t c) F l = omega (arith, F .0)
 few-barriers n m w b (propagateWrite x t) F l = omega arith
@@ -52,6 +53,7 @@ few-barriers n m w b (commit x y) F l = omega arith
 few-barriers n m w b (respond t a v) F l = omega arith
 few-barriers n m w b (acknowledge x) F l = omega arith
 
+-- behind a step that fits, too
 module _ (n m : ℕ) (before : List Step) (x : Step) (F : StepFits n m (writesIn before) (barriersIn before) x) where
   pub writes-few : writesIn before ≤ mostWrites → writesIn (before ++ (x ∷ [])) ≤ mostWrites
   writes-few l = rw (writes-grown before x) (few-writes n m (writesIn before) (barriersIn before) x F l)

@@ -98,6 +98,7 @@ along-fits : (n m : ℕ) (before xs : List Step) → Along grown (λ z x. StepFi
 along-fits n m before [] h = tt
 along-fits n m before (x ∷ xs) h = (h .0, along-fits n m (before ++ (x ∷ [])) xs (h .1))
 
+-- what the reader reads is a trace that fits, and the bytes are its own
 pub exact-trace : Exact Malformed trace (As traceBytes Fits)
 unfolding trace traceBytes
 exact-trace =

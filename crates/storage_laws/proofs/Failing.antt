@@ -22,6 +22,7 @@ three true true false = refl
 three true false c = refl
 three false b c = refl
 
+-- `failing` is 0 where the step is enabled, and only there
 pub enabled-failing : (s : State) (x : Step) → enabled s x ≡ eqb (failing s x) 0
 unfolding enabled failing
 enabled-failing s (acceptWrite t a v) = refl

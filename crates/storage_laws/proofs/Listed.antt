@@ -31,6 +31,7 @@ precedes-members e f (x ∷ l) h = by (precedes-members e f l)
         (λ t. (or-l (same e x) (member e l) (and-l (same e x) (member f l) t), or-r (same f x) (member f l) (and-r (same e x) (member f l) t)))
         (λ t. (or-r (same e x) (member e l) (ih t .0), or-r (same f x) (member f l) (ih t .1))) h
 
+-- a list stays as it should be where the state grows
 pub listed-more : (s t : State) (l : List Event) → Grows s t → Listed s l → Listed t l
 listed-more s t l G L = record {
   in-order = λ a b h e.
@@ -70,6 +71,7 @@ barrier-is a b e = eqb-true a b (unfold same in (ap (same (barrier a)) (sym e) �
 write-no-barrier : (a b : ℕ) → write a ≡ barrier b → ⊥
 write-no-barrier a b e = false≢true (unfold same in (ap (same (write a)) (sym e) ∙ same-refl (write a)))
 
+-- a write at the end that comes after the writes to its address
 pub listed-write : (s : State) (l : List Event) (w : ℕ) → Listed s l → member (write w) l ≡ false → w < writesSeen s
     → ((v : ℕ) → member (write v) l ≡ true → address s v ≡ address s w → coherent s v w ≡ true) → Listed s (l ++ (write w ∷ []))
 listed-write s l w L new low after = record {
@@ -82,6 +84,7 @@ listed-write s l w L new low after = record {
   barriers = λ b h. ⊎-elim (L .barriers b) (λ e. absurd (write-no-barrier w b (sym e))) (append-either s l (write w) L new (barrier b) h);
 }
 
+-- a barrier at the end
 pub listed-barrier : (s : State) (l : List Event) (b : ℕ) → Listed s l → member (barrier b) l ≡ false → b < barriersSeen s → Listed s (l ++ (barrier b ∷ []))
 listed-barrier s l b L new low = record {
   in-order = order-append s l (barrier b) L new (λ a w m e same-address. absurd (write-no-barrier w b e));

@@ -14,6 +14,7 @@ use borrow.Author.Tests.{eq-eqb, eqb-true}
 use Rattle.finite.proofs.Tests.{or-false}
 use Rattle.storage_model.specs.Subsystem.{Event, write, barrier, same, member, precedes, appended}
 
+-- `same` is equality
 pub same-refl : (e : Event) → same e e ≡ true
 unfolding same
 same-refl (write a) = eq-eqb a a refl
@@ -30,6 +31,7 @@ or-assoc : (a b c : Bool) → (a || (b || c)) ≡ ((a || b) || c)
 or-assoc true b c = refl
 or-assoc false b c = refl
 
+-- with x at the end
 pub member-append : (e : Event) (l : List Event) (x : Event) → member e (l ++ (x ∷ [])) ≡ (member e l || same e x)
 unfolding member
 member-append e [] x = or-false (same e x)
@@ -55,6 +57,7 @@ precedes-append e f [] x = none (same e x)
 precedes-append e f (y ∷ l) x =
     rw (member-append f l x, precedes-append e f l x) (spread (same e y) (member f l) (same f x) (precedes e f l) (member e l))
 
+-- a list with one more is one longer
 pub one-more : {A : Type 0} (l : List A) (x : A) → length (l ++ (x ∷ [])) ≡ suc (length l)
 one-more l x = length-append l (x ∷ []) ∙ add-one (length l)
 

@@ -57,6 +57,7 @@ steps-read n m hn hm before (x ∷ xs) lw lb F = (
   steps-read n m hn hm (before ++ (x ∷ [])) xs (writes-few n m before x (F .0) lw) (barriers-few n m before x (F .0) lb) (F .1),
 )
 
+-- its reader reads a trace's bytes as the trace
 pub reads-trace : (t : Trace) → Fits t → ReadsAs trace (traceBytes t) t
 unfolding trace traceBytes
 reads-trace t F =

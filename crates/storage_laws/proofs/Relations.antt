@@ -5,25 +5,25 @@ use native.Mathlib.Omega.{arith}
 use native.Mathlib.Decide.{decLt, ℕ-discrete}
 use mathlib.Core.Path.{_≡_, sym, ap, _∙_}
 use mathlib.Core.Bool.{Bool, true, false, not, _&&_, _||_, true≢false}
-use mathlib.Core.Logic.{_⊎_, inl, inr}
+use mathlib.Core.Logic.{_⊎_, inl, inr, _↔_}
 use mathlib.Core.List.{[]}
 use borrow.Author.Tests.{not-true}
 use Rattle.finite.specs.Lists.{table}
 use Rattle.finite.proofs.Tests.{and-l, and-r, and-i, or-l, or-r, or-e, all-get, all-make, is-false}
 use Rattle.finite.proofs.Lists.{table-get, table-past, table-same}
-use Rattle.storage_model.specs.Relation.{Relation, relation, related, byWayOf, reached, closure, irreflexive, acyclic}
+use Rattle.storage_model.specs.Relation.{Path, edge, then, Relation, relation, related, byWayOf, reached, closure, irreflexive, acyclic}
 
 -- what a table of a relation holds
 pub related-in : (k : ℕ) (f : ℕ → ℕ → Bool) (a b : ℕ) → a < k → b < k → related (relation k f) a b ≡ f a b
 unfolding related relation
 related-in k f a b la lb = rw (table-get k (λ a. table 0 k (f a)) a [] la) (table-get k (f a) b false lb)
 
-pub record Related (k : ℕ) (f : ℕ → ℕ → Bool) (a b : ℕ) : Type 0 where
-  pub first : a < k
-  pub second : b < k
-  pub holds : f a b ≡ true
+record Related (k : ℕ) (f : ℕ → ℕ → Bool) (a b : ℕ) : Type 0 where
+  first : a < k
+  second : b < k
+  holds : f a b ≡ true
 
-pub related-is : (k : ℕ) (f : ℕ → ℕ → Bool) (a b : ℕ) → related (relation k f) a b ≡ true → Related k f a b
+related-is : (k : ℕ) (f : ℕ → ℕ → Bool) (a b : ℕ) → related (relation k f) a b ≡ true → Related k f a b
 related-is k f a b h = by (decLt a k) (decLt b k)
   where
     by : Dec (a < k) → Dec (b < k) → Related k f a b
@@ -37,6 +37,7 @@ related-is k f a b h = by (decLt a k) (decLt b k)
         unfold related relation in rw (table-past 0 k (λ a. table 0 k (f a)) a [] (omega arith)) in
         absurd (true≢false (sym h ∙ none))
 
+-- the table of f goes by the numbers below k alone
 pub relation-same : (k : ℕ) (f g : ℕ → ℕ → Bool) → ((a b : ℕ) → a < k → b < k → f a b ≡ g a b) → relation k f ≡ relation k g
 unfolding relation
 relation-same k f g e =
@@ -129,6 +130,7 @@ module _ (k : ℕ) where
     unfolding closure
     closure-least a b h = reached-least k a b h
 
+  -- it relates numbers below k
   pub closure-within : (f : ℕ → ℕ → Bool) (a b : ℕ) → related (closure k f) a b ≡ true → (a < k) × (b < k)
   unfolding closure
   closure-within f a b h = reached-within f k a b h
@@ -144,7 +146,6 @@ module _ (k : ℕ) where
   unfolding closure
   closure-transitive f a b c h g = reached-through f k a b c (reached-within f k a b h .1) h g
 
-  -- it is a table of the numbers below k
   table-again : (f : ℕ → ℕ → Bool) → relation k f ≡ relation k (related (relation k f))
   table-again f = relation-same k f (related (relation k f)) (λ a b la lb. sym (related-in k f a b la lb))
 
@@ -153,6 +154,7 @@ module _ (k : ℕ) where
   reached-table f zero = table-again f
   reached-table f (suc j) = table-again _
 
+  -- it is a table of the numbers below k
   pub closure-table : (f : ℕ → ℕ → Bool) → closure k f ≡ relation k (related (closure k f))
   unfolding closure
   closure-table f = reached-table f k
@@ -162,6 +164,7 @@ module _ (k : ℕ) where
   reached-same f g e zero = relation-same k f g e
   reached-same f g e (suc j) = ap (byWayOf k j) (reached-same f g e j)
 
+  -- it goes by the numbers below k alone
   pub closure-same : (f g : ℕ → ℕ → Bool) → ((a b : ℕ) → a < k → b < k → f a b ≡ g a b) → closure k f ≡ closure k g
   unfolding closure
   closure-same f g e = reached-same f g e k
@@ -170,29 +173,26 @@ module _ (k : ℕ) where
   unfolding acyclic
   acyclic-same f g e = ap (irreflexive k) (closure-same f g e)
 
+  -- where there is no cycle, it relates no number to itself
   pub acyclic-is : (f : ℕ → ℕ → Bool) → acyclic k f ≡ true → (a : ℕ) → related (closure k f) a a ≡ true → ⊥
   unfolding acyclic irreflexive
   acyclic-is f h a t =
       true≢false (sym t ∙ not-true _ (all-get k (λ a. not (related (closure k f) a a)) h a (closure-within f a a t .0)))
 
--- ---- the closure is what one or more edges lead to
+-- ---- paths
 
-pub data Path (k : ℕ) (f : ℕ → ℕ → Bool) : ℕ → ℕ → Type 0 where
-  edge : {a b : ℕ} → a < k → b < k → f a b ≡ true → Path k f a b
-  then : {a b c : ℕ} → Path k f a b → Path k f b c → Path k f a c
-
-pub closure-path : (k : ℕ) (f : ℕ → ℕ → Bool) (a b : ℕ) → related (closure k f) a b ≡ true → Path k f a b
-closure-path k f = closure-least k f (Path k f) (λ a b la lb h. edge la lb h) (λ a b c p q. then p q)
-
-pub path-closure : (k : ℕ) (f : ℕ → ℕ → Bool) {a b : ℕ} → Path k f a b → related (closure k f) a b ≡ true
+path-closure : (k : ℕ) (f : ℕ → ℕ → Bool) {a b : ℕ} → Path k f a b → related (closure k f) a b ≡ true
 path-closure k f (edge la lb h) = closure-holds k f _ _ la lb h
 path-closure k f (then p q) = closure-transitive k f _ _ _ (path-closure k f p) (path-closure k f q)
 
--- no cycle: no path from a number to itself
-pub acyclic-path : (k : ℕ) (f : ℕ → ℕ → Bool) → acyclic k f ≡ true → (a : ℕ) → Path k f a a → ⊥
-acyclic-path k f h a p = acyclic-is k f h a (path-closure k f p)
+-- the closure is what paths lead to
+pub closure-iff : (k : ℕ) (f : ℕ → ℕ → Bool) (a b : ℕ) → (related (closure k f) a b ≡ true) ↔ Path k f a b
+closure-iff k f a b = (closure-least k f (Path k f) (λ a b la lb h. edge la lb h) (λ a b c p q. then p q) a b, path-closure k f)
 
-pub acyclic-make : (k : ℕ) (f : ℕ → ℕ → Bool) → ((a : ℕ) → Path k f a a → ⊥) → acyclic k f ≡ true
+-- there is no cycle: no path leads from a number to itself
+pub acyclic-iff : (k : ℕ) (f : ℕ → ℕ → Bool) → (acyclic k f ≡ true) ↔ ((a : ℕ) → Path k f a a → ⊥)
 unfolding acyclic irreflexive
-acyclic-make k f h =
-    all-make k (λ a. not (related (closure k f) a a)) (λ a l. ap not (is-false (λ t. h a (closure-path k f a a t))))
+acyclic-iff k f = (
+  λ h a p. acyclic-is k f h a (path-closure k f p),
+  λ h. all-make k (λ a. not (related (closure k f) a a)) (λ a l. ap not (is-false (λ t. h a (closure-iff k f a a .0 t)))),
+)

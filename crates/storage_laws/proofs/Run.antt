@@ -102,9 +102,11 @@ module _ (t : Trace) (F : Fits t) (s : State) where
     behind : Behind (t .n) (t .m) done rest s
     behind = behind-steps [] done rest (begin t) s (subst (λ (xs : List Step). Behind (t .n) (t .m) [] xs (begin t)) e (behind-none t F)) h
 
+    -- coherence, lists and syncs are as they should be
     pub sound : Sound s
     sound = behind .sound
 
+    -- the limits are kept
     pub within : Within s
     within = behind .limits
 

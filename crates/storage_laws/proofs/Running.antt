@@ -22,6 +22,7 @@ pub record Running (start : State) (xs : ℕ → Step) (count i : ℕ) (now : St
   pub same : runFrom i now (table i (count - i) xs) ≡ runFrom 0 start (table 0 count xs)
 
 module _ {start : State} {xs : ℕ → Step} {count : ℕ} where
+  -- before the first turn
   pub running-begun : Running start xs count 0 start
   running-begun = record { within = omega arith; same = let z : count - 0 ≡ count = omega arith in ap (λ (k : ℕ). runFrom 0 start (table 0 k xs)) z }
 
@@ -36,15 +37,18 @@ module _ {start : State} {xs : ℕ → Step} {count : ℕ} where
         (sym h ∙ ap (λ (k : ℕ). eqb k 0) e ∙ sym (enabled-failing now (xs i)))
         ∙ sym (ap (runFrom i now) (table-turn i count xs l)) ∙ R .same
 
+    -- it is enabled: the run goes on from its effect
     pub running-more : (next : State) → c ≡ 0 → next ≡ effect now (xs i) → Running start xs count (i + 1) next
     running-more next h f = record {
       within = omega arith;
       same = ap₂ (λ (k : ℕ) (s : State). runFrom k s (table (i + 1) (count - (i + 1)) xs)) (add-one i) f ∙ turn true (eq-eqb c 0 h);
     }
 
+    -- it is not: the run ends here
     pub running-refused : (c ≡ 0 → ⊥) → refused i c ≡ runFrom 0 start (table 0 count xs)
     running-refused d = ap (refused i) e ∙ turn false (ne-eqb c 0 d)
 
+  -- behind the last step
   pub running-ends : {i : ℕ} {now : State} → Running start xs count i now → count ≤ i → accepted now ≡ runFrom 0 start (table 0 count xs)
   unfolding runFrom
   running-ends {i} {now} R l = sym (ap (runFrom i now) (table-end i count xs l)) ∙ R .same
@@ -53,6 +57,7 @@ module _ {start : State} {xs : ℕ → Step} {count : ℕ} where
 pub record BehindAt (n m : ℕ) (xs : ℕ → Step) (count i : ℕ) (now : State) : Type 0 where
   pub state : Behind n m (table 0 i xs) (table i (count - i) xs) now
 
+-- before the first turn
 pub behind-begun : (t : Trace) → Fits t → (xs : ℕ → Step) (count : ℕ) → t .steps ≡ table 0 count xs → BehindAt (t .n) (t .m) xs count 0 (initial (t .n) (t .initials))
 unfolding table
 behind-begun t F xs count e = record { state = let z : count - 0 ≡ count = omega arith in rw (z, ← e) (behind-none t F) }
@@ -61,9 +66,11 @@ module _ {n m : ℕ} {xs : ℕ → Step} {count i : ℕ} {now : State} (B : Behi
   here : Behind n m (table 0 i xs) (xs i ∷ table (i + 1) (count - (i + 1)) xs) now
   here = rw (← table-turn i count xs l) (B .state)
 
+  -- the step fits the state
   pub step-fits-at : StepFits n m (writesSeen now) (barriersSeen now) (xs i)
   step-fits-at = step-fits here
 
+  -- it is enabled
   pub behind-more : {c : ℕ} → c ≡ failing now (xs i) → c ≡ 0 → (next : State) → next ≡ effect now (xs i) → BehindAt n m xs count (i + 1) next
   behind-more e z next f = record {
     state = rw (f, table-more i xs) (behind-step here (enabled-failing now (xs i) ∙ eq-eqb (failing now (xs i)) 0 (sym e ∙ z)));

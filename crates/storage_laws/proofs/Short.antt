@@ -52,7 +52,7 @@ tally w b (x ∷ l) once hw hb =
     by (write v) new ih lw lb = let e = count-with w v (λ v. member (write v) l) (lw v refl) new in rw e (omega (arith, ih))
     by (barrier c) new ih lw lb = let e = count-with b c (λ c. member (barrier c) l) (lb c refl) new in rw e (omega (arith, ih))
 
-pub listed-short : (s : State) (l : List Event) → Listed s l → length l ≤ writesSeen s + barriersSeen s
+listed-short : (s : State) (l : List Event) → Listed s l → length l ≤ writesSeen s + barriersSeen s
 listed-short s l L =
     let e = tally (writesSeen s) (barriersSeen s) l (L .once) (L .writes) (L .barriers) in
     omega (arith, e, count-le (writesSeen s) (λ v. member (write v) l), count-le (barriersSeen s) (λ c. member (barrier c) l))

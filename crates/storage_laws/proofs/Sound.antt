@@ -160,7 +160,7 @@ module _ (s : State) (S : Sound s) where
     new-write : member (write (writesSeen s)) (events s t) ≡ false
     new-write = is-false (λ h. let l = S .lists t .writes (writesSeen s) h in omega (arith, l))
 
-    pub sound-accept-write : Sound (effect s (acceptWrite t a v))
+    sound-accept-write : Sound (effect s (acceptWrite t a v))
     sound-accept-write = unfold s₁ in record {
       ordered = record {
         transitive = λ y z w h g. co₁ y w ∙ closure-transitive (suc (writesSeen s)) edges y z w (sym (co₁ y z) ∙ h) (sym (co₁ z w) ∙ g);
@@ -215,7 +215,7 @@ module _ (s : State) (S : Sound s) where
             let m = one-more (s .unacknowledged) (eqb c sync) in
             absurd (false≢true (sym (List·getD-eq-default (s .unacknowledged ++ (eqb c sync ∷ [])) false (omega (arith, m, n))) ∙ h))
 
-    pub sound-accept-barrier : Sound (effect s (acceptBarrier t c))
+    sound-accept-barrier : Sound (effect s (acceptBarrier t c))
     sound-accept-barrier = unfold s₂ in record {
       ordered = ordered-stays s s₂ (unfold effect in refl) (unfold effect in refl) (S .ordered);
       lists = lists-append s s₂ t (barrier (barriersSeen s)) (unfold effect in refl) (λ u. listed-more s s₂ (events s u) grows₂ (S .lists u))
@@ -253,14 +253,14 @@ module _ (s : State) (S : Sound s) where
         (all-get (writesSeen s) (λ v. (arrived s (write v) t && eqb (address s v) (address s w)) ⇒ coherent s v w) (conditions .1) v (S .lists t .writes v m))
         (and-i (arrived s (write v) t) (eqb (address s v) (address s w)) m (eq-eqb (address s v) (address s w) e))
 
-    pub sound-propagate-write : Sound (effect s (propagateWrite w t))
+    sound-propagate-write : Sound (effect s (propagateWrite w t))
     unfolding effect writeIsNew arrived
     sound-propagate-write =
         sound-propagate (effect s (propagateWrite w t)) t (write w) refl refl refl refl refl
         (listed-write s (events s t) w (S .lists t) (not-true _ (conditions .0)) low after₃)
 
   -- propagate a barrier
-  pub sound-propagate-barrier : (b t : ℕ) → b < barriersSeen s → enabled s (propagateBarrier b t) ≡ true → Sound (effect s (propagateBarrier b t))
+  sound-propagate-barrier : (b t : ℕ) → b < barriersSeen s → enabled s (propagateBarrier b t) ≡ true → Sound (effect s (propagateBarrier b t))
   unfolding effect enabled barrierIsNew arrived
   sound-propagate-barrier b t low on =
       sound-propagate (effect s (propagateBarrier b t)) t (barrier b) refl refl refl refl refl
@@ -307,7 +307,7 @@ module _ (s : State) (S : Sound s) where
       barriers = unfold s₅ effect in le-refl _;
     }
 
-    pub sound-commit : Sound (effect s (commit x y))
+    sound-commit : Sound (effect s (commit x y))
     sound-commit = unfold s₅ in record {
       ordered = record {
         transitive = λ a b c h g. co₅ a c ∙ closure-transitive (writesSeen s) edges₅ a b c (sym (co₅ a b) ∙ h) (sym (co₅ b c) ∙ g);
@@ -336,7 +336,7 @@ module _ (s : State) (S : Sound s) where
         by (yes e) (yes l) = absurd (false≢true (sym (ap (λ (i : ℕ). getD (set (s .unacknowledged) b false) i false) e ∙ getD-set-same (s .unacknowledged) b false false l) ∙ h))
         by (yes e) (no l) = absurd (false≢true (sym (List·getD-eq-default (set (s .unacknowledged) b false) false (rw length-set (omega (arith, e)))) ∙ h))
 
-    pub sound-acknowledge : Sound (effect s (acknowledge b))
+    sound-acknowledge : Sound (effect s (acknowledge b))
     sound-acknowledge = unfold s₇ in record {
       ordered = ordered-stays s s₇ (unfold effect in refl) (unfold effect in refl) (S .ordered);
       lists = λ u. unfold effect events in listed-more s s₇ (events s u) grows₇ (S .lists u);
@@ -370,6 +370,7 @@ listed-none s = unfold precedes member in record {
   barriers = λ b h. absurd (false≢true h);
 }
 
+-- before the first step
 pub sound-initial : (n : ℕ) (initials : List ℕ) → Sound (initial n initials)
 sound-initial n initials = record {
   ordered = unfold initial coherent related in record {

@@ -40,6 +40,7 @@ kept s W ws co bs ls us lw hw hc lb hb e = record {
   coherence = hc;
 }
 
+-- after a step that names what the state has seen, and has room for what it accepts
 pub within-step : (s : State) → Within s → (x : Step) → StepFits (s .threads) (length (s .initials)) (writesSeen s) (barriersSeen s) x → Within (effect s x)
 unfolding effect coherent followed committed
 within-step s W (acceptWrite t a v) F =
@@ -70,6 +71,7 @@ limits-stay s (commit x y) = (refl, refl)
 limits-stay s (respond t a v) = (refl, refl)
 limits-stay s (acknowledge b) = (refl, refl)
 
+-- before the first step
 pub within-initial : (n : ℕ) (initials : List ℕ) → n ≤ mostThreads → length initials ≤ mostAddresses → All (λ v. v ≤ mostValue) initials → Within (initial n initials)
 unfolding initial relation table
 within-initial n initials hn hm hv = record {
