@@ -28,35 +28,31 @@ pub seen-step : (s : State) (x : Step) → (writesSeen (effect s x) ≡ writesSe
 unfolding effect
 seen-step s (acceptWrite t a v) = (length-append (s .writes) _, omega arith)
 seen-step s (acceptBarrier t c) = (omega arith, length-append (s .barriers) _)
-seen-step s (propagateWrite w t) = (omega arith, omega arith)
-seen-step s (propagateBarrier b t) = (omega arith, omega arith)
-seen-step s (commit x y) = (omega arith, omega arith)
-seen-step s (respond t a v) = (omega arith, omega arith)
-seen-step s (acknowledge b) = (omega arith, omega arith)
+seen-step s (propagateWrite w t) = omega arith
+seen-step s (propagateBarrier b t) = omega arith
+seen-step s (commit x y) = omega arith
+seen-step s (respond t a v) = omega arith
+seen-step s (acknowledge b) = omega arith
 
--- no more than there may be
-few-writes : (n m w b : ℕ) (x : Step) → StepFits n m w b x → w ≤ mostWrites → w + writesOf x ≤ mostWrites
-few-writes n m w b (acceptWrite t a v) F l = omega (arith, F .0)
-few-writes n m w b (acceptBarrier t c) F l = omega arith
-few-writes n m w b (propagateWrite x t) F l = omega arith
-few-writes n m w b (propagateBarrier x t) F l = omega arith
-few-writes n m w b (commit x y) F l = omega arith
-few-writes n m w b (respond t a v) F l = omega arith
-few-writes n m w b (acknowledge x) F l = omega arith
+-- no more writes and barriers than there may be
+abbrev pub Few : (w b : ℕ) → Type 0
+Few w b = (w ≤ mostWrites) × (b ≤ mostBarriers)
 
-few-barriers : (n m w b : ℕ) (x : Step) → StepFits n m w b x → b ≤ mostBarriers → b + barriersOf x ≤ mostBarriers
-few-barriers n m w b (acceptWrite t a v) F l = omega arith
-few-barriers n m w b (acceptBarrier t c) F l = omega (arith, F .0)
-few-barriers n m w b (propagateWrite x t) F l = omega arith
-few-barriers n m w b (propagateBarrier x t) F l = omega arith
-few-barriers n m w b (commit x y) F l = omega arith
-few-barriers n m w b (respond t a v) F l = omega arith
-few-barriers n m w b (acknowledge x) F l = omega arith
+few-more : (n m w b : ℕ) (x : Step) → StepFits n m w b x → Few w b → Few (w + writesOf x) (b + barriersOf x)
+few-more n m w b (acceptWrite t a v) F l = omega (arith, F .0, l)
+few-more n m w b (acceptBarrier t c) F l = omega (arith, F .0, l)
+few-more n m w b (propagateWrite x t) F l = omega (arith, l)
+few-more n m w b (propagateBarrier x t) F l = omega (arith, l)
+few-more n m w b (commit x y) F l = omega (arith, l)
+few-more n m w b (respond t a v) F l = omega (arith, l)
+few-more n m w b (acknowledge x) F l = omega (arith, l)
 
 -- behind a step that fits, too
-module _ (n m : ℕ) (before : List Step) (x : Step) (F : StepFits n m (writesIn before) (barriersIn before) x) where
-  pub writes-few : writesIn before ≤ mostWrites → writesIn (before ++ (x ∷ [])) ≤ mostWrites
-  writes-few l = rw (writes-grown before x) (few-writes n m (writesIn before) (barriersIn before) x F l)
+pub few-grown : (n m : ℕ) (before : List Step) (x : Step) → StepFits n m (writesIn before) (barriersIn before) x → Few (writesIn before) (barriersIn before)
+    → Few (writesIn (before ++ (x ∷ []))) (barriersIn (before ++ (x ∷ [])))
+few-grown n m before x F l = rw (writes-grown before x, barriers-grown before x) (few-more n m (writesIn before) (barriersIn before) x F l)
 
-  pub barriers-few : barriersIn before ≤ mostBarriers → barriersIn (before ++ (x ∷ [])) ≤ mostBarriers
-  barriers-few l = rw (barriers-grown before x) (few-barriers n m (writesIn before) (barriersIn before) x F l)
+-- before the first step
+pub few-none : Few (writesIn []) (barriersIn [])
+unfolding writesIn barriersIn
+few-none = omega arith

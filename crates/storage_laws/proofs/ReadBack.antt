@@ -20,7 +20,7 @@ use Rattle.storage_model.specs.Trace.{Trace, Step, acceptWrite, acceptBarrier, 
 use Rattle.storage_model.specs.Layout.{acceptWriteFields, acceptBarrierFields, propagateWriteFields, propagateBarrierFields, commitFields, respondFields, acknowledgeFields, fields, roomFor, step, trace, readTrace}
 use Rattle.storage_model.specs.Written.{stepBytes, traceBytes}
 use Rattle.storage_model.specs.Fits.{StepFits, StepsFit, Fits}
-use Rattle.storage_laws.proofs.Counts.{writes-few, barriers-few}
+use Rattle.storage_laws.proofs.Counts.{Few, few-none, few-grown}
 
 -- counts of writes and barriers that a number can say
 module _ (n m w b : ℕ) (hn : n ≤ 128 ^ groups) (hm : m ≤ 128 ^ groups) (hw : w < 128 ^ groups) (hb : b < 128 ^ groups) where
@@ -49,12 +49,12 @@ module _ (n m w b : ℕ) (hn : n ≤ 128 ^ groups) (hm : m ≤ 128 ^ groups) (hw
       (reads-bind _ (reads-below n t (F .0) hn) (reads-bind _ (reads-below m a (F .1) hm) (reads-last _ (reads-up-to mostValue v (F .2) (lit< tt)))))
   reads-step (acknowledge x) F = of-kind 7 _ _ (lit≤ tt) (lit≤ tt) refl (reads-last _ (reads-under b x F hb))
 
-steps-read : (n m : ℕ) → n ≤ 128 ^ groups → m ≤ 128 ^ groups → (before xs : List Step) → writesIn before ≤ mostWrites → barriersIn before ≤ mostBarriers
+steps-read : (n m : ℕ) → n ≤ 128 ^ groups → m ≤ 128 ^ groups → (before xs : List Step) → Few (writesIn before) (barriersIn before)
     → StepsFit n m before xs → Steps (λ z. step n m (writesIn z) (barriersIn z)) stepBytes before xs
-steps-read n m hn hm before [] lw lb F = tt
-steps-read n m hn hm before (x ∷ xs) lw lb F = (
-  reads-step n m (writesIn before) (barriersIn before) hn hm (omega arith) (omega arith) x (F .0),
-  steps-read n m hn hm (before ++ (x ∷ [])) xs (writes-few n m before x (F .0) lw) (barriers-few n m before x (F .0) lb) (F .1),
+steps-read n m hn hm before [] l F = tt
+steps-read n m hn hm before (x ∷ xs) l F = (
+  reads-step n m (writesIn before) (barriersIn before) hn hm (omega (arith, l .0)) (omega (arith, l .1)) x (F .0),
+  steps-read n m hn hm (before ++ (x ∷ [])) xs (few-grown n m before x (F .0) l) (F .1),
 )
 
 -- its reader reads a trace's bytes as the trace
@@ -68,7 +68,7 @@ reads-trace t F =
     (reads-bind _ initials
     (reads-bind _ (reads-up-to mostSteps (length (t .steps)) (F .steps-most) (lit< tt))
     (reads-last _ (reads-turns (λ z. step (t .n) (t .m) (writesIn z) (barriersIn z)) stepBytes [] (t .steps)
-    (steps-read (t .n) (t .m) (omega (arith, F .n-most)) (omega (arith, F .m-most)) [] (t .steps) (unfold writesIn in lit≤ tt) (unfold barriersIn in lit≤ tt) (F .steps)))))))
+    (steps-read (t .n) (t .m) (omega (arith, F .n-most)) (omega (arith, F .m-most)) [] (t .steps) few-none (F .steps)))))))
 
 -- whatever lies behind it
 pub read-back : (t : Trace) → Fits t → (rest : List ℕ) → readTrace (traceBytes t ++ rest) ≡ next t (length (traceBytes t))
