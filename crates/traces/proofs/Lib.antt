@@ -1,0 +1,4 @@
+pub mod ByKind
+pub mod Ends
+pub mod Turns
+pub mod Judged
