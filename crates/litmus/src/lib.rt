@@ -19,6 +19,10 @@ ghost use Rattle.area_model.specs.Area.{frameAt, append as appendArea, repair a
 ghost use Rattle.area.specs.Shown.{frameShown};
 ghost use Rattle.condition_model.specs.Answers.{condition as conditionOf, conditionCase};
 ghost use Rattle.condition.specs.Shown.{conditionShown};
+ghost use Rattle.storage_model.specs.Layout.{readTrace};
+ghost use Rattle.storage_model.specs.Answers.{judgeTrace};
+ghost use Rattle.trace_reader.specs.Held.{readingShown};
+ghost use Rattle.traces.specs.Shown.{traceShown};
 ghost use Rattle.litmus.specs.Shown.{caseShown, partShown, noPart, judgedPart, renumberedPart, bytesOf};
 ghost use Rattle.litmus.specs.Orders.{tooMany, rule11Answer};
 pub use answers::Answer;
@@ -30,7 +34,11 @@ pub use log::LogAnswer;
 pub use log::judge_log;
 pub use log::judged_part;
 pub use representatives::Choice;
+pub use storage::Storage;
 pub use tally::Tally;
+pub use trace_reader::Trace;
+pub use trace_reader::TraceReading;
+pub use traces::TraceAnswer;
 
 // An answer and its case, which is `Case::empty()` where it was refused.
 #[repr(C)]
@@ -132,6 +140,21 @@ pub fn condition_case(c: Case, model: u64, text: &[u8]) -> ConditionAnswer
         return condition::asked(c, length, model == 1, text);
     }
     condition::refused(fault, 0)
+}
+
+// Reads a trace: 0, its length and its steps, or 1 to 3 and the place.
+pub fn read_trace(bytes: &[u8]) -> TraceReading
+    ensures { λ r. ⌜ r ≡ readingShown (readTrace (now (bytes .entry))) ⌝ }
+{
+    trace_reader::read_trace(bytes)
+}
+
+// Takes a trace's steps: 1 to 3 and the place; 31, the first step that is not enabled and the first of its conditions that fails; or 0 with the length and
+// the state behind the last step.
+pub fn judge_trace(bytes: &[u8]) -> TraceAnswer
+    ensures { λ r. ⌜ r ≡ traceShown (judgeTrace (now (bytes .entry))) ⌝ }
+{
+    traces::judge(bytes)
 }
 
 // Writes a case's record into the buffer from a place on: 3, 4 or 23 with place 0 for a bad field, then 6.
@@ -567,6 +590,20 @@ pub extern "C" fn litmus_area_next(area: &[u8], at: u64) -> Frame
     ensures { λ r. ⌜ r ≡ frameShown at (frameAt (now (area .entry)) at) ⌝ }
 {
     area_next(area, at as usize)
+}
+
+#[no_mangle]
+pub extern "C" fn litmus_trace(bytes: &[u8]) -> TraceAnswer
+    ensures { λ r. ⌜ r ≡ traceShown (judgeTrace (now (bytes .entry))) ⌝ }
+{
+    judge_trace(bytes)
+}
+
+#[no_mangle]
+pub extern "C" fn litmus_trace_read(bytes: &[u8]) -> TraceReading
+    ensures { λ r. ⌜ r ≡ readingShown (readTrace (now (bytes .entry))) ⌝ }
+{
+    read_trace(bytes)
 }
 
 #[no_mangle]
