@@ -12,6 +12,7 @@ pub mod generate;
 pub mod judge;
 pub mod limits;
 pub mod log;
+mod numbers;
 pub mod permutation;
 pub mod random;
 pub mod read;

@@ -1,16 +1,17 @@
 //! Bytes to rows.
 
 use super::{has, Case, Rows, Set, LOAD, STORE};
-use crate::answer::{Refusal, ENDS, FORM, MISPLACED, RANGE, UNPRINTABLE};
+use crate::answer::{Refusal, ENDS, MISPLACED, UNPRINTABLE};
 use crate::case::{Class, Kind};
-use crate::limits::{ADDRESSES, DEPENDENCIES, EVENTS, FIRST, GROUPS, NAME, PRINTABLE, SECOND};
+use crate::limits::{ADDRESSES, DEPENDENCIES, EVENTS, FIRST, NAME, PRINTABLE, SECOND};
 use crate::limits::{THREADS, VALUE};
+use crate::numbers::{refuse, Reader};
 
 const ADDRESS: usize = Class::Address as usize;
 
 /// Reads the record at the front of the bytes into a new case.
 pub fn read_into(case: &mut Case, bytes: &[u8]) -> Result<(), Refusal> {
-    let mut reader = Reader { bytes, place: 0 };
+    let mut reader = Reader::new(bytes);
     let edition = reader.number(FIRST, SECOND)?;
     case.threads = reader.number(1, THREADS as u32)? as usize;
     case.addresses = reader.number(1, ADDRESSES as u32)? as usize;
@@ -30,58 +31,7 @@ pub fn read_into(case: &mut Case, bytes: &[u8]) -> Result<(), Refusal> {
     Ok(())
 }
 
-struct Reader<'a> {
-    bytes: &'a [u8],
-    place: usize,
-}
-
 impl Reader<'_> {
-    #[inline(always)]
-    fn number(&mut self, least: u32, most: u32) -> Result<u32, Refusal> {
-        match self.bytes.get(self.place) {
-            Some(&byte) if byte < 128 => {
-                let value = u32::from(byte);
-                if value < least || value > most {
-                    return refuse(RANGE, self.place);
-                }
-                self.place += 1;
-                Ok(value)
-            }
-            _ => self.long_number(least, most),
-        }
-    }
-
-    fn long_number(&mut self, least: u32, most: u32) -> Result<u32, Refusal> {
-        let mut value = 0u64;
-        for group in 0..GROUPS {
-            let Some(&byte) = self.bytes.get(self.place + group) else {
-                return refuse(ENDS, self.place);
-            };
-            value |= u64::from(byte & 127) << (7 * group);
-            if byte < 128 {
-                if group > 0 && byte == 0 {
-                    return refuse(FORM, self.place);
-                }
-                if value < u64::from(least) || value > u64::from(most) {
-                    return refuse(RANGE, self.place);
-                }
-                self.place += group + 1;
-                return Ok(value as u32);
-            }
-        }
-        refuse(FORM, self.place)
-    }
-
-    /// A number below `count`; below 0 there is none.
-    #[inline(always)]
-    fn below(&mut self, count: usize) -> Result<usize, Refusal> {
-        let place = self.place;
-        match self.number(0, u32::MAX)? as usize {
-            number if number < count => Ok(number),
-            _ => refuse(RANGE, place),
-        }
-    }
-
     fn events(&mut self, case: &mut Case, kinds: usize) -> Result<(), Refusal> {
         case.count = self.number(0, EVENTS as u32)? as usize;
         for event in &mut case.events[..case.count] {
@@ -238,8 +188,4 @@ impl Row {
 #[inline(always)]
 fn bit(e: u8) -> Set {
     Set::wrapping_shl(1, e.into())
-}
-
-fn refuse<T>(number: u32, place: usize) -> Result<T, Refusal> {
-    Err(Refusal { number, place })
 }
