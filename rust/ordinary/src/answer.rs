@@ -27,6 +27,9 @@ pub const NESTING: u32 = 22;
 /// A byte of the name is not printable.
 pub const UNPRINTABLE: u32 = 23;
 
+/// A trace's step is not enabled.
+pub const DISABLED: u32 = 31;
+
 /// Every number that reading may give.
 pub const OF_READING: [u32; 6] = [0, ENDS, FORM, RANGE, MISPLACED, UNPRINTABLE];
 

@@ -1,6 +1,7 @@
-//! How much a case may hold. Every limit stands here and nowhere else.
+//! How much a case or a trace may hold. Every limit stands here and nowhere else.
 
 use crate::case::{Class, Kind};
+use crate::storage::Step;
 use std::ops::RangeInclusive;
 
 /// The first edition: no lwsyncs and no dependencies.
@@ -34,6 +35,15 @@ pub const DEPTH: usize = 16;
 /// Greatest count of a log's records.
 pub const COUNT: u32 = u32::MAX;
 
+/// Most steps of a trace.
+pub const STEPS: usize = 128;
+/// Most writes that a trace's steps accept.
+pub const WRITES: usize = 16;
+/// Most barriers that they accept.
+pub const BARRIERS: usize = 8;
+/// Most entries of a thread's list: each write and each barrier once.
+pub const LISTED: usize = WRITES + BARRIERS;
+
 /// Labels that a permutation moves: threads or addresses.
 pub const LABELS: usize = if THREADS > ADDRESSES {
     THREADS
@@ -54,6 +64,13 @@ pub const fn most_bytes(edition: u32) -> usize {
         + THREADS * order
         + size(NAME)
         + NAME
+}
+
+/// The greatest trace, in bytes: all its steps are read responses with the greatest value.
+pub const fn most_trace_bytes() -> usize {
+    let value = size(VALUE as usize);
+    let step = size(Step::KINDS) + size(THREADS - 1) + size(ADDRESSES - 1) + value;
+    size(THREADS) + size(ADDRESSES) + ADDRESSES * value + size(STEPS) + STEPS * step
 }
 
 /// The most bytes of dependencies and write orders.
