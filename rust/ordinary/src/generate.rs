@@ -1,4 +1,4 @@
-//! Random cases and records for the tests and the benchmark.
+//! Random cases, records and traces for the tests and the benchmark.
 
 mod calls;
 mod conditions;
@@ -10,6 +10,7 @@ mod own_orders;
 mod program;
 mod sparse;
 mod tied;
+mod traces;
 
 pub use calls::{any_buffer, any_permutation};
 pub use conditions::{any_text, condition_text, text_of_length};
@@ -20,6 +21,7 @@ pub use odd::{assert_odd_came_up, odd_records};
 pub use own_orders::{breaking, own_orders};
 pub use sparse::{sparse, Duty};
 pub use tied::{counts_apart, last_rows_apart, one_event_off, relabelled, tied};
+pub use traces::{accepted_trace, any_trace, mixed_trace, odd_traces, step_off_at, Mixture};
 
 use crate::case::{Case, Event, Kind, Order};
 use crate::limits::{

@@ -28,13 +28,7 @@ fn broken(random: &mut Random, case: &Case) -> Vec<u8> {
     let mut record = write::record(case);
     let at = random.below(record.len());
     match random.below(9) {
-        0 => record.truncate(at),
-        1 => record[at] = random.byte(),
-        2 => record[at] = record[at].wrapping_add(1),
-        3 => {
-            record.remove(at);
-        }
-        4 => record.insert(at, random.byte()),
+        way @ ..BYTE_CHANGES => change_byte(random, &mut record, at, way),
         5 => {
             let count = random.below(40);
             record = random.bytes(count);
@@ -43,6 +37,22 @@ fn broken(random: &mut Random, case: &Case) -> Vec<u8> {
         _ => record = with_unfit_dependency(random, case),
     }
     record
+}
+
+/// The ways in which [`change_byte`] changes bytes.
+pub(super) const BYTE_CHANGES: usize = 5;
+
+/// Cuts the bytes, or exchanges, raises, takes out or puts in one.
+pub(super) fn change_byte(random: &mut Random, bytes: &mut Vec<u8>, at: usize, way: usize) {
+    match way {
+        0 => bytes.truncate(at),
+        1 => bytes[at] = random.byte(),
+        2 => bytes[at] = bytes[at].wrapping_add(1),
+        3 => {
+            bytes.remove(at);
+        }
+        _ => bytes.insert(at, random.byte()),
+    }
 }
 
 /// The record in the second edition with a dependency more that may not stand there. If none is
@@ -70,19 +80,28 @@ fn with_unfit_dependency(random: &mut Random, case: &Case) -> Vec<u8> {
 fn with_odd_number(random: &mut Random, case: &Case) -> Vec<u8> {
     let numbers = write::numbers(case);
     let odd = random.below(numbers.len());
-    let mut record = Vec::new();
+    let (mut record, cut) = one_odd_number(random, &numbers, odd);
+    if !cut {
+        record.extend(&case.name);
+    }
+    record
+}
+
+/// The bytes of the numbers, one of which is exchanged for odd bytes; and whether they are cut behind
+/// it.
+pub(super) fn one_odd_number(random: &mut Random, numbers: &[u32], odd: usize) -> (Vec<u8>, bool) {
+    let mut bytes = Vec::new();
     for (i, &value) in numbers.iter().enumerate() {
         if i == odd {
-            record.extend(odd_number(random, value));
+            bytes.extend(odd_number(random, value));
             if random.once_in(4) {
-                return record;
+                return (bytes, true);
             }
         } else {
-            record.extend(write::number(value.into()));
+            bytes.extend(write::number(value.into()));
         }
     }
-    record.extend(&case.name);
-    record
+    (bytes, false)
 }
 
 /// A number that is too long, too great, unfinished or not in its shortest form.

@@ -46,24 +46,36 @@ pub fn assert_odd_came_up(tally: &Tally) {
     tally.assert_each(SMALL, OF_READING, 100);
 }
 
-/// Every number of some records exchanged for others, and for itself and others in odd forms; as a
-/// whole and cut behind it.
+/// Every number of some records written otherwise.
 fn every_number(visit: &mut impl FnMut(&'static str, &[u8])) {
     for case in cases() {
-        let record = record(&case);
-        let mut start = 0;
-        let all = numbers(&case);
-        for (i, place) in places(&case).into_iter().enumerate() {
-            let end = start + number(all[i].into()).len();
-            let before = all[i.saturating_sub(2)];
-            for form in forms(all[i], before, case.events.len()) {
-                let mut changed = [&record[..start], &form].concat();
-                visit(place, &changed);
-                changed.extend(&record[end..]);
-                visit(place, &changed);
-            }
-            start = end;
+        let places = places(&case);
+        let mut visit = |i: usize, bytes: &[u8]| visit(places[i], bytes);
+        let bound = case.events.len();
+        written_otherwise(&record(&case), &numbers(&case), bound, &mut visit);
+    }
+}
+
+/// Hands over bytes that begin with these numbers, with each number exchanged for others, and for itself
+/// and others in odd forms; as a whole and cut behind it; and the number's place among them. Some of the
+/// others are around the bound.
+pub(super) fn written_otherwise(
+    bytes: &[u8],
+    numbers: &[u32],
+    bound: usize,
+    visit: &mut impl FnMut(usize, &[u8]),
+) {
+    let mut start = 0;
+    for (i, &value) in numbers.iter().enumerate() {
+        let end = start + number(value.into()).len();
+        let before = numbers[i.saturating_sub(2)];
+        for form in forms(value, before, bound) {
+            let mut changed = [&bytes[..start], &form].concat();
+            visit(i, &changed);
+            changed.extend(&bytes[end..]);
+            visit(i, &changed);
         }
+        start = end;
     }
 }
 
@@ -218,9 +230,9 @@ fn place_of_pair(pairs: &[(usize, usize)], i: usize) -> &'static str {
 
 /// Other numbers than this one: its neighbours, the one two before it, those at limits. Then numbers
 /// of more groups, not in the shortest form, too great, or unfinished.
-fn forms(value: u32, two_before: u32, events: usize) -> Vec<Vec<u8>> {
+fn forms(value: u32, two_before: u32, bound: usize) -> Vec<Vec<u8>> {
     let near = [value.saturating_sub(1), value.saturating_add(1), two_before];
-    let last = (events as u32).saturating_sub(1);
+    let last = (bound as u32).saturating_sub(1);
     let limits = [0, last, last + 1, 64, 127, 128, VALUE];
     let others = near
         .into_iter()
