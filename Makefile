@@ -18,7 +18,7 @@ judge_log:
 	rt check judge_log
 
 # times beside an ordinary Rust implementation; with BEFORE=ARCHIVE judging also beside another version's liblitmus.a,
-# and with PART=judging nothing else
+# and with PART=judging or PART=traces nothing else
 bench: archive judge_log
 	cd rust && BEFORE=$(abspath $(BEFORE)) cargo run --release --offline --bin bench $(PART)
 

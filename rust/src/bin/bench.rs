@@ -1,7 +1,8 @@
 //! Times the library beside an ordinary optimised reader and judge, its two tests of rule 11 beside
-//! each other, a log and the program for logs beside the records one by one, areas and conditions
-//! beside an ordinary implementation's, and representatives beside all renumberings, on the same
-//! input in one run. With the word `judging` it times reading and judging alone.
+//! each other, a log and the program for logs beside the records one by one, areas, conditions and
+//! traces beside an ordinary implementation's, and representatives beside all renumberings, on the
+//! same input in one run. With the word `judging` it times reading and judging alone, and with
+//! `traces` traces alone.
 
 #[path = "bench/areas.rs"]
 mod areas;
@@ -18,6 +19,10 @@ mod conditions;
 mod inputs;
 #[path = "bench/judging.rs"]
 mod judging;
+#[path = "../../tests/common/traces.rs"]
+mod trace_answers;
+#[path = "bench/traces.rs"]
+mod traces;
 
 use built::built;
 use litmus::{condition_raw, Log, Rows, CONDITION_BYTES, RECORD_BYTES, RULES};
@@ -51,11 +56,27 @@ const ONE_BY_ONE: &str = "records one by one   ours";
 const TARGET: &str = concat!(env!("CARGO_MANIFEST_DIR"), "/../target");
 
 fn main() {
-    judging::judging();
-    if env::args().nth(1).as_deref() == Some("judging") {
-        return;
+    match env::args().nth(1).as_deref() {
+        Some("judging") => judging::judging(),
+        Some("traces") => {
+            print_rounds();
+            traces::traces();
+        }
+        _ => {
+            judging::judging();
+            print_rounds();
+            the_rest();
+            traces::traces();
+        }
     }
+}
+
+fn print_rounds() {
     println!("each time is the best of {ROUNDS} rounds, which take turns\n");
+}
+
+/// All but judging and traces.
+fn the_rest() {
     for count in SIZES {
         for edition in EDITIONS {
             let records = records(edition, count);
