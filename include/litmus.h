@@ -14,6 +14,9 @@
  *
  * A case is one candidate execution in a struct, litmus_case. The calls litmus_case_.. are for
  * programs that build cases or look into them.
+ *
+ * A trace is a run of the storage subsystem of those processors, step by step; litmus_trace says
+ * whether each step may happen where it stands.
  */
 #ifndef LITMUS_H
 #define LITMUS_H
@@ -48,6 +51,18 @@ enum {
 enum {
     LITMUS_CONDITION_BYTES = 512,
     LITMUS_CONDITION_DEPTH = 16
+};
+
+/*
+ * The most steps of a trace, the most writes and barriers that it accepts, the most entries of a
+ * thread's list, and the most bytes of a trace.
+ */
+enum {
+    LITMUS_STEPS = 128,
+    LITMUS_WRITES = 16,
+    LITMUS_BARRIERS = 8,
+    LITMUS_LISTED = LITMUS_WRITES + LITMUS_BARRIERS,
+    LITMUS_TRACE_BYTES = 1048
 };
 
 /* The kinds of events. Edition 1 has no lwsync. */
@@ -95,6 +110,7 @@ enum {
  *            21  a condition's text is outside the grammar
  *            22  a condition's text is nested too deep
  *            23  a byte of the name is not printable (32 to 126)
+ *            31  of a trace: a step is not enabled where it stands
  *          A sync orders any two events; an lwsync orders loads and stores, but not a store
  *          before a load.
  *          Where several rules are broken, the lowest is given.
@@ -364,6 +380,130 @@ litmus_answer litmus_area_append(uint8_t *area, size_t size, const uint8_t *reco
  * with the log's own fault (9, 1 to 4, 23), it stores nothing.
  */
 litmus_answer litmus_area_repair(uint8_t *area, size_t size, uint64_t allowed);
+
+/*
+ * A trace is a run of the storage subsystem: which writes and barriers it accepts, when each is
+ * propagated to which thread, which writes it commits to be before which, what it answers reads and
+ * when it acknowledges syncs. docs/FORMAT.md describes its bytes. A call on a trace looks at the
+ * one that starts at the first byte it is handed and reads no further than that trace ends.
+ *
+ * Writes and barriers are numbered separately from 0, in the order in which they are accepted. Each
+ * thread has a list of the events, writes and barriers, that have been propagated to it; its own
+ * are there once they are accepted. Coherence is the order of the writes to each address, as far as
+ * it is committed: transitive and without a cycle.
+ */
+
+/* The kinds of steps, with their fields in the order of the bytes. */
+enum {
+    LITMUS_ACCEPT_WRITE = 1,      /* thread, address, value */
+    LITMUS_ACCEPT_BARRIER = 2,    /* thread; 0 sync, 1 lwsync */
+    LITMUS_PROPAGATE_WRITE = 3,   /* write, thread */
+    LITMUS_PROPAGATE_BARRIER = 4, /* barrier, thread */
+    LITMUS_COMMIT = 5,            /* the write that comes first in coherence, the other */
+    LITMUS_RESPOND = 6,           /* thread, address, value that is read */
+    LITMUS_ACKNOWLEDGE = 7        /* barrier */
+};
+
+/* A state of the storage subsystem. What stands in an array beyond its count is 0. */
+typedef struct {
+    size_t threads;                       /* how many */
+    size_t addresses;                     /* how many */
+    uint32_t initial[LITMUS_ADDRESSES];   /* by address: what it holds at first */
+    size_t writes;                        /* how many were accepted; by write: */
+    uint8_t writer[LITMUS_WRITES];        /* its thread */
+    uint8_t address[LITMUS_WRITES];       /* where it stores */
+    uint32_t value[LITMUS_WRITES];        /* what it stores */
+    /* Bit a of before[b] says that write a is before write b in coherence order. */
+    uint64_t before[LITMUS_WRITES];
+    size_t barriers;                      /* how many were accepted; by barrier: */
+    uint8_t owner[LITMUS_BARRIERS];       /* its thread */
+    uint8_t barrier_class[LITMUS_BARRIERS];  /* 0 sync, 1 lwsync */
+    uint8_t unacknowledged[LITMUS_BARRIERS]; /* 1: a sync that has not been acknowledged */
+    size_t listed[LITMUS_THREADS];        /* by thread: how many events its list has */
+    /*
+     * Thread t's list, in the order propagated, from events[t * LITMUS_LISTED] on: a write by its
+     * number, a barrier by its number + LITMUS_WRITES.
+     */
+    uint8_t events[LITMUS_THREADS * LITMUS_LISTED];
+} litmus_storage;
+
+/*
+ * number     what was found:
+ *               0  every step is enabled where it stands
+ *               1 to 3  the trace can't be read, as for records: the bytes end inside a number; a
+ *                  number has too many groups or is not in its shortest form; a number is outside
+ *                  its range, names no write or barrier of an earlier step, or is the kind of a
+ *                  step that accepts a write or barrier too many
+ *              31  a step is not enabled where it stands
+ * condition  under 31, which of the conditions on the step fails, the first where several do:
+ *               LITMUS_PROPAGATE_WRITE     1  the write has not been propagated to the thread yet
+ *                                          2  it is after every write to its address that has
+ *                                             been propagated there, in coherence order
+ *                                          3  every barrier before it in its own thread's list has
+ *                                             been propagated there
+ *               LITMUS_PROPAGATE_BARRIER   1  the barrier has not been propagated to the thread yet
+ *                                          2  every write before it in its own thread's list has
+ *                                             been propagated there, or a write after it in
+ *                                             coherence order has
+ *               LITMUS_COMMIT              1  both writes are to one address
+ *                                          2  coherence does not relate them yet
+ *                                          3  there is no cycle in the coherence that results and
+ *                                             all pairs of writes with a barrier between them in
+ *                                             the list of the second one's thread; a write before
+ *                                             itself is one
+ *               LITMUS_RESPOND             1  the value is that of the last write to the address
+ *                                             in the thread's list, or else the initial value
+ *               LITMUS_ACKNOWLEDGE         1  the barrier is a sync that has not been acknowledged
+ *                                          2  it has been propagated to every thread
+ *            LITMUS_ACCEPT_WRITE and LITMUS_ACCEPT_BARRIER are always enabled; otherwise 0
+ * place      under 1 to 3, the byte where the faulty number starts; otherwise 0
+ * step       under 31, the first step that is not enabled, counted from 0; otherwise 0
+ * length     under 0, how many bytes the trace takes; otherwise 0
+ * end        under 0, the state after the last step; otherwise all 0
+ */
+typedef struct {
+    uint32_t number;
+    uint32_t condition;
+    uint64_t place;
+    uint64_t step;
+    uint64_t length;
+    litmus_storage end;
+} litmus_trace_answer;
+
+/*
+ * Runs the trace from the state in which each address holds its initial value and nothing was
+ * accepted: 0 with length and end, 31 with step and condition, or 1 to 3 with the place, before any
+ * step is judged. A step that is not enabled ends the run.
+ */
+litmus_trace_answer litmus_trace(const uint8_t *trace, size_t size);
+
+/* A trace that was read. What stands in an array beyond its count is 0. */
+typedef struct {
+    size_t threads;                       /* how many: 1 to LITMUS_THREADS */
+    size_t addresses;                     /* 1 to LITMUS_ADDRESSES */
+    uint32_t initial[LITMUS_ADDRESSES];   /* by address: what it holds at first */
+    size_t steps;                         /* 0 to LITMUS_STEPS; by step: */
+    uint8_t kind[LITMUS_STEPS];           /* LITMUS_ACCEPT_WRITE .. LITMUS_ACKNOWLEDGE */
+    uint8_t first[LITMUS_STEPS];          /* its first field */
+    uint8_t second[LITMUS_STEPS];         /* its second field, 0 if it has none */
+    uint32_t value[LITMUS_STEPS];         /* its third, the value, 0 if it has none */
+} litmus_steps;
+
+/*
+ * number   0, or 1 to 3 as for litmus_trace
+ * place    under 1 to 3, the byte where the faulty number starts; otherwise 0
+ * length   under 0, how many bytes the trace takes; otherwise 0
+ * steps    under 0, what stands in the trace; otherwise all 0
+ */
+typedef struct {
+    uint32_t number;
+    uint64_t place;
+    uint64_t length;
+    litmus_steps steps;
+} litmus_trace_reading;
+
+/* Reads the trace and judges no step. */
+litmus_trace_reading litmus_trace_read(const uint8_t *trace, size_t size);
 
 /*
  * A case. Threads, addresses, events and dependencies are numbered from 0. A thread's program order
