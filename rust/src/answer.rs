@@ -77,6 +77,7 @@ pub fn meaning(number: u32) -> &'static str {
         21 => "a condition's text is outside the grammar",
         22 => "a condition's text is nested too deep",
         23 => "a byte of the name is not printable ASCII",
+        31 => "a step of a trace is not enabled where it stands",
         _ => "no such number",
     }
 }

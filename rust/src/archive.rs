@@ -2,6 +2,7 @@
 
 use crate::Tally;
 use crate::{Answer, Case, CaseAnswer, Choice, ConditionAnswer, Frame, LogAnswer, Part, Rows};
+use crate::{TraceAnswer, TraceReading};
 
 // Not bundled, so that the wrapper itself, and a program that calls none of these, builds without
 // the archive.
@@ -64,6 +65,8 @@ extern "C" {
         allowed: u64,
     ) -> Answer;
     pub fn litmus_area_repair(area: *mut u8, size: usize, allowed: u64) -> Answer;
+    pub fn litmus_trace(trace: *const u8, size: usize) -> TraceAnswer;
+    pub fn litmus_trace_read(trace: *const u8, size: usize) -> TraceReading;
     pub fn litmus_case_read(record: *const u8, size: usize) -> CaseAnswer;
     pub fn litmus_case_write(c: Case, out: *mut u8, room: usize, at: u64) -> Answer;
     pub fn litmus_case_judge(c: Case, model: u64) -> Answer;

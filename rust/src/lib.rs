@@ -34,8 +34,9 @@
 //!
 //! [`condition`] says whether a condition on final memory and loaded values holds for a record. A
 //! program that builds its cases itself uses [`Case`]; one that judges records as they come uses
-//! [`Log`]; one that keeps records through a power failure uses [`Area`]. The functions ending in
-//! `_raw` take any numbers and give the library's own answers.
+//! [`Log`]; one that keeps records through a power failure uses [`Area`]. [`trace()`] says of a run of
+//! the storage subsystem whether each step may happen where it stands. The functions ending in `_raw`
+//! take any numbers and give the library's own answers.
 
 mod answer;
 mod archive;
@@ -44,6 +45,7 @@ mod case;
 mod class;
 mod condition;
 mod log;
+mod trace;
 
 pub use answer::{meaning, Answer, CaseAnswer, Choice, Finals, Part, Refusal, Rule, Verdict};
 pub use area::{area_append_raw, area_next_raw, area_records, area_repair_raw};
@@ -54,6 +56,8 @@ pub use class::{same_class, write_representative, Lesser};
 pub use condition::TextFault;
 pub use condition::{condition, condition_raw, Asked, ConditionAnswer, ConditionRefusal};
 pub use log::{judge_log_raw, Log, LogAnswer, LogSummary, Tally};
+pub use trace::{read_trace, read_trace_raw, trace, trace_raw, TraceAnswer, TraceReading};
+pub use trace::{BarrierClass, Propagated, Step, StepCondition, Steps, Storage, Traced};
 
 use std::fmt;
 
@@ -82,6 +86,16 @@ pub const NAME_BYTES: usize = 32;
 pub const CONDITION_BYTES: usize = 512;
 /// How deep `~` and brackets may be nested in a condition, as in `litmus.h`.
 pub const CONDITION_DEPTH: usize = 16;
+/// The most steps of a trace, as in `litmus.h`.
+pub const STEPS: usize = 128;
+/// The most writes that a trace accepts, as in `litmus.h`.
+pub const WRITES: usize = 16;
+/// The most barriers that a trace accepts, as in `litmus.h`.
+pub const BARRIERS: usize = 8;
+/// The most events that are propagated to a thread, as in `litmus.h`.
+pub const LISTED: usize = WRITES + BARRIERS;
+/// The most bytes of a trace, as in `litmus.h`.
+pub const TRACE_BYTES: usize = 1_048;
 /// The number of the first rule, as in `litmus.h`.
 pub const FIRST_RULE: u32 = 11;
 /// How many rules there are, as in `litmus.h`.

@@ -8,6 +8,7 @@ mod lines;
 use compile::{compiled, root, temporary};
 use lines::lines;
 use litmus::{Case, CaseAnswer, Choice, ConditionAnswer, Frame, LogAnswer, Tally};
+use litmus::{Steps, Storage, TraceAnswer, TraceReading};
 use ordinary::generate::any_records;
 use ordinary::random::Random;
 use std::fs::{self, File};
@@ -295,6 +296,11 @@ fn structs_lie_alike() {
     fields!(Tally, "litmus_tally", records accepted broken);
     fields!(LogAnswer, "litmus_log_answer", number ended place length);
     fields!(Frame, "litmus_frame", number ended place at length);
+    fields!(Storage, "litmus_storage", threads addresses initial writes writer address value before);
+    fields!(Storage, "litmus_storage", barriers owner barrier_class unacknowledged listed events);
+    fields!(TraceAnswer, "litmus_trace_answer", number condition place step length end);
+    fields!(Steps, "litmus_steps", threads addresses initial steps kind first second value);
+    fields!(TraceReading, "litmus_trace_reading", number place length steps);
     let source = temporary("layout.c");
     let text = format!(
         "#include \"litmus.h\"\n#include <stdio.h>\n\

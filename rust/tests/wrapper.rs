@@ -3,11 +3,13 @@
 use litmus::{compared, lesser, representative, same_class, write_representative};
 use litmus::{judge, judge_raw, judged_name, meaning, name, read, read_raw, renumber};
 use litmus::{Answer, Case, CaseAnswer, Lesser, Log, Model, Refusal, Rule, Tally, Verdict};
-use ordinary::answer::{FLAG, GRAMMAR, UNPRINTABLE};
+use litmus::{BarrierClass, Steps};
+use ordinary::answer::{DISABLED, FLAG, GRAMMAR, UNPRINTABLE};
 use ordinary::generate;
 use ordinary::judge::RULES;
-use ordinary::limits::{most_bytes, EDITIONS, FIRST, SECOND};
+use ordinary::limits::{most_bytes, most_trace_bytes, EDITIONS, FIRST, SECOND};
 use ordinary::limits::{ADDRESSES, DEPENDENCIES, DEPTH, EVENTS, NAME, TEXT, THREADS};
+use ordinary::limits::{BARRIERS, LISTED, STEPS, WRITES};
 use ordinary::random::Random;
 use ordinary::{Class, Kind};
 use std::collections::BTreeSet;
@@ -19,10 +21,11 @@ const SMALL: &[u8] = include_bytes!("../../examples/small.litmus");
 /// Here and in the header.
 #[test]
 fn every_number_has_its_own_words() {
-    let numbers = (0..=FLAG).chain(RULES).chain(GRAMMAR..=UNPRINTABLE);
+    let texts = GRAMMAR..=UNPRINTABLE;
+    let numbers = (0..=FLAG).chain(RULES).chain(texts).chain([DISABLED]);
     let words: BTreeSet<&str> = numbers.clone().map(meaning).collect();
     assert_eq!(words.len(), numbers.clone().count());
-    assert!([10, 19, 20, 24]
+    assert!([10, 19, 20, 24, 30, 32]
         .iter()
         .all(|&n| !words.contains(meaning(n))));
     for number in numbers {
@@ -62,6 +65,45 @@ fn limits_of_cases_and_conditions() {
         let line = format!("    LITMUS_{name} = {most}");
         assert!(HEADER.contains(&line), "{name}");
     }
+}
+
+/// Here and in the header.
+#[test]
+fn limits_of_traces() {
+    for (name, most, ours) in [
+        ("STEPS", STEPS, litmus::STEPS),
+        ("WRITES", WRITES, litmus::WRITES),
+        ("BARRIERS", BARRIERS, litmus::BARRIERS),
+        ("TRACE_BYTES", most_trace_bytes(), litmus::TRACE_BYTES),
+    ] {
+        assert_eq!(ours, most, "{name}");
+        let line = format!("    LITMUS_{name} = {most}");
+        assert!(HEADER.contains(&line), "{name}");
+    }
+    assert_eq!(litmus::LISTED, LISTED);
+    assert!(HEADER.contains("    LITMUS_LISTED = LITMUS_WRITES + LITMUS_BARRIERS,\n"));
+}
+
+/// Here and in the header.
+#[test]
+fn kinds_of_steps() {
+    for (name, number, ours) in [
+        ("ACCEPT_WRITE", 1, Steps::ACCEPT_WRITE),
+        ("ACCEPT_BARRIER", 2, Steps::ACCEPT_BARRIER),
+        ("PROPAGATE_WRITE", 3, Steps::PROPAGATE_WRITE),
+        ("PROPAGATE_BARRIER", 4, Steps::PROPAGATE_BARRIER),
+        ("COMMIT", 5, Steps::COMMIT),
+        ("RESPOND", 6, Steps::RESPOND),
+        ("ACKNOWLEDGE", 7, Steps::ACKNOWLEDGE),
+    ] {
+        assert_eq!(ours, number, "{name}");
+        let stated = format!(" LITMUS_{name} = {number}");
+        assert!(HEADER.contains(&stated), "{name}");
+    }
+    assert_eq!(
+        [BarrierClass::Sync as u8, BarrierClass::Lwsync as u8],
+        [0, 1]
+    );
 }
 
 /// Here and in the header.
