@@ -1,17 +1,21 @@
 //! Groups records that are one case but for the labels of threads and addresses.
 
+#[path = "shared/call.rs"]
+mod call;
 #[path = "shared/files.rs"]
 mod files;
 #[path = "shared/input.rs"]
 mod input;
+#[path = "shared/name.rs"]
+mod name;
 
-use files::{name_of, put, shown, status, told, wrong_call, BAD_FILE};
+use call::{called, is_option, wrong_call};
+use files::{put, shown, status, told, BAD_FILE};
 use input::{bytes_of, source_of};
 use litmus::representative;
+use name::name_of;
 use std::collections::BTreeMap;
-use std::env;
-use std::ffi::{OsStr, OsString};
-use std::os::unix::ffi::OsStrExt;
+use std::ffi::OsStr;
 use std::process::ExitCode;
 
 const USAGE: &str = "\
@@ -41,20 +45,13 @@ still grouped; 2 if it is called in another way.
 ";
 
 fn main() -> ExitCode {
-    let words: Vec<OsString> = env::args_os().skip(1).collect();
-    let words: Vec<&OsStr> = words.iter().map(OsString::as_os_str).collect();
-    let option = |word: &&OsStr| word.as_bytes().starts_with(b"--");
-    match words[..] {
-        [word] if word == "--help" || word == "-h" => {
-            print!("{USAGE}");
-            ExitCode::SUCCESS
-        }
+    called(USAGE, |words| match *words {
         [word, source] if word == "--write" => write(source, None),
         [word, source, target] if word == "--write" => write(source, Some(target)),
         [] => wrong_call(USAGE),
-        _ if words.iter().any(option) => wrong_call(USAGE),
-        _ => group(&words),
-    }
+        _ if words.iter().any(is_option) => wrong_call(USAGE),
+        _ => group(words),
+    })
 }
 
 /// The records of one class.

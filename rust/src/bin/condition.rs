@@ -1,16 +1,22 @@
 //! Says of records whether a condition on final memory and loaded values holds.
 
+#[path = "shared/call.rs"]
+mod call;
+#[path = "shared/each.rs"]
+mod each;
 #[path = "shared/files.rs"]
 mod files;
 #[path = "shared/input.rs"]
 mod input;
+#[path = "shared/name.rs"]
+mod name;
 
-use files::{name_of, put, status, told, wrong_call, BAD_FILE, BAD_USAGE};
-use input::{bytes_of, source_of};
+use call::{called, is_option, wrong_call, BAD_USAGE};
+use each::{tell_each, Finding};
 use litmus::{condition, read, Asked, Case, ConditionRefusal, Model, Refusal};
 use litmus::{ADDRESSES, EDITION_1, EVENTS};
-use std::env;
-use std::ffi::{OsStr, OsString};
+use name::name_of;
+use std::ffi::OsStr;
 use std::os::unix::ffi::OsStrExt;
 use std::process::ExitCode;
 
@@ -48,19 +54,13 @@ no condition, or if it is called in another way.
 ";
 
 fn main() -> ExitCode {
-    let words: Vec<OsString> = env::args_os().skip(1).collect();
-    let words: Vec<&OsStr> = words.iter().map(OsString::as_os_str).collect();
-    match words[..] {
-        [word] if word == "--help" || word == "-h" => {
-            print!("{USAGE}");
-            ExitCode::SUCCESS
-        }
+    called(USAGE, |words| match *words {
         [option, model, ref rest @ ..] if option == "--model" => match named(model) {
-            Some(model) => called(model, rest),
+            Some(model) => ask_files(model, rest),
             None => wrong_call(USAGE),
         },
-        _ => called(Model::PpcS, &words),
-    }
+        _ => ask_files(Model::PpcS, words),
+    })
 }
 
 fn named(model: &OsStr) -> Option<Model> {
@@ -72,12 +72,11 @@ fn named(model: &OsStr) -> Option<Model> {
 }
 
 /// Asks the condition of the files, if that is what the words are.
-fn called(model: Model, words: &[&OsStr]) -> ExitCode {
-    let option = |word: &&OsStr| word.as_bytes().starts_with(b"--");
+fn ask_files(model: Model, words: &[&OsStr]) -> ExitCode {
     let [text, ref files @ ..] = *words else {
         return wrong_call(USAGE);
     };
-    if words.iter().any(option) {
+    if words.iter().any(is_option) {
         return wrong_call(USAGE);
     }
     let text = text.as_bytes();
@@ -85,10 +84,7 @@ fn called(model: Model, words: &[&OsStr]) -> ExitCode {
         eprintln!("{refusal}");
         return ExitCode::from(BAD_USAGE);
     }
-    match files {
-        [] => ask_all(&[OsStr::new("-")], model, text),
-        _ => ask_all(files, model, text),
-    }
+    tell_each(files, |_, _, record| ask(record, model, text))
 }
 
 /// A case that has every address and load that a case may have, and is accepted. A text that is
@@ -108,51 +104,17 @@ fn widest() -> Case {
     case
 }
 
-/// Prints a line for each record, and tells of what can't be read.
-fn ask_all(files: &[&OsStr], model: Model, text: &[u8]) -> ExitCode {
-    let mut all_hold = true;
-    for file in files {
-        let source = source_of(file);
-        let (lines, holds) = match told(&source, bytes_of(file)) {
-            Ok(bytes) => {
-                let (lines, holds) = ask(&bytes, model, text);
-                (lines, told(&source, holds))
-            }
-            Err(message) => (String::new(), Err(message)),
-        };
-        if let Err(message) = put(lines.as_bytes(), None) {
-            return status(Err(message));
-        }
-        all_hold &= holds.unwrap_or_else(|message| {
-            eprintln!("{message}");
-            false
-        });
-    }
-    match all_hold {
-        true => ExitCode::SUCCESS,
-        false => ExitCode::from(BAD_FILE),
-    }
-}
-
-/// The lines of records back to back, and whether the condition holds for all of them; or why one
-/// can't be read, its place from the first one's start.
-fn ask(bytes: &[u8], model: Model, text: &[u8]) -> (String, Result<bool, Refusal>) {
-    let (mut lines, mut all_hold, mut start) = (String::new(), true, 0);
-    while start < bytes.len() {
-        let record = &bytes[start..];
-        let length = match read(record) {
-            Ok(length) => length,
-            Err(Refusal { number, place }) => {
-                let place = place.map(|place| start + place);
-                return (lines, Err(Refusal { number, place }));
-            }
-        };
-        let asked = condition(record, model, text);
-        all_hold &= asked.as_ref().is_ok_and(|asked| asked.holds());
-        lines += &format!("{}: {}\n", name_of(record), words(asked, model));
-        start += length;
-    }
-    (lines, Ok(all_hold))
+/// The line of the record at the front.
+fn ask(record: &[u8], model: Model, text: &[u8]) -> Result<Finding, Refusal> {
+    let length = read(record)?;
+    let asked = condition(record, model, text);
+    let good = asked.as_ref().is_ok_and(|asked| asked.holds());
+    let lines = format!("{}: {}\n", name_of(record), words(asked, model));
+    Ok(Finding {
+        length,
+        lines,
+        good,
+    })
 }
 
 fn words(asked: Result<Asked, ConditionRefusal>, model: Model) -> String {

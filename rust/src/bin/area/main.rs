@@ -1,20 +1,24 @@
 //! Keeps an area in a file: a log whose records survive a power failure.
 
+#[path = "../shared/call.rs"]
+mod call;
 #[path = "../shared/files.rs"]
 mod files;
 mod input;
 mod kept;
+#[path = "../shared/name.rs"]
+mod name;
 
-use files::{name_of, put, shown, status, told, wrong_call};
+use call::{called, is_option, wrong_call};
+use files::{put, shown, status, told};
 use input::Input;
 use kept::{create, walk, Kept};
 use litmus::Area;
-use std::env;
+use name::name_of;
 use std::error::Error;
-use std::ffi::{OsStr, OsString};
+use std::ffi::OsStr;
 use std::fs;
 use std::iter;
-use std::os::unix::ffi::OsStrExt;
 use std::process::ExitCode;
 
 const USAGE: &str = "\
@@ -50,25 +54,18 @@ in another way.
 ";
 
 fn main() -> ExitCode {
-    let words: Vec<OsString> = env::args_os().skip(1).collect();
-    let words: Vec<&OsStr> = words.iter().map(OsString::as_os_str).collect();
-    match words[..] {
-        [word] if word == "--help" || word == "-h" => {
-            print!("{USAGE}");
-            ExitCode::SUCCESS
-        }
+    called(USAGE, |words| match *words {
         [command, file, ref rest @ ..] => match outcome(command, file, rest) {
             Some(outcome) => status(outcome),
             None => wrong_call(USAGE),
         },
         _ => wrong_call(USAGE),
-    }
+    })
 }
 
 /// What a command on a file comes to; None if it is a wrong call.
 fn outcome(command: &OsStr, file: &OsStr, rest: &[&OsStr]) -> Option<Result<(), String>> {
-    let option = |word: &&OsStr| word.as_bytes().starts_with(b"--");
-    if option(&file) || rest.iter().any(option) {
+    if is_option(&file) || rest.iter().any(is_option) {
         return None;
     }
     match (command.to_str()?, rest) {

@@ -1,4 +1,4 @@
-//! What the programs on files of records share: what they print, and how they end.
+//! What the programs on files share: what they print, and how they end.
 
 use std::ffi::OsStr;
 use std::fmt::Display;
@@ -7,14 +7,8 @@ use std::io::{self, Write};
 use std::os::unix::ffi::OsStrExt;
 use std::process::ExitCode;
 
-/// The exit status where something can't be read or done, and of a wrong call.
+/// The exit status where something can't be read or done.
 pub const BAD_FILE: u8 = 1;
-pub const BAD_USAGE: u8 = 2;
-
-pub fn wrong_call(usage: &str) -> ExitCode {
-    eprintln!("{}", usage.trim());
-    ExitCode::from(BAD_USAGE)
-}
 
 pub fn status(outcome: Result<(), String>) -> ExitCode {
     match outcome {
@@ -45,14 +39,6 @@ fn print(bytes: &[u8]) -> io::Result<()> {
     let mut output = io::stdout();
     output.write_all(bytes)?;
     output.flush()
-}
-
-/// A record's name, whose bytes are printable.
-pub fn name_of(record: &[u8]) -> String {
-    match litmus::name(record) {
-        b"" => "(no name)".to_string(),
-        bytes => String::from_utf8_lossy(bytes).into_owned(),
-    }
 }
 
 /// A file's name, so that none of its bytes upsets a terminal and a space ends it.

@@ -1,4 +1,4 @@
-//! What the programs on files of records read.
+//! What the programs on files read.
 
 use crate::files::shown;
 use std::ffi::OsStr;
