@@ -1,5 +1,7 @@
 //! The program `record`.
 
+use ordinary::limits::{BARRIERS, STEPS, VALUE, WRITES};
+use ordinary::text;
 use std::fs;
 use std::io::Write;
 use std::path::{Path, PathBuf};
@@ -102,7 +104,14 @@ fn takes_the_greatest_value() {
 fn helps() {
     let help = record(&[Path::new("--help")], "").stdout;
     let help = String::from_utf8(help).expect("text");
-    assert!(help.starts_with("usage: record") && help.ends_with(ordinary::text::HELP));
-    assert!(help.contains(&format!("Values are 0 to {}.", ordinary::limits::VALUE)));
+    assert!(help.starts_with("usage: record [TEXT [FILE]]\n"));
+    let (case, trace) = (text::HELP, text::trace::HELP);
+    assert!(help.ends_with(&format!("{case}\n{trace}")));
+    for part in [case, trace] {
+        assert!(part.contains(&format!("Values are 0 to {VALUE}.")));
+    }
+    let words = trace.split_whitespace().collect::<Vec<_>>().join(" ");
+    assert!(words.contains(&format!("at most {STEPS}. ")));
+    assert!(words.contains(&format!("at most {WRITES} writes and {BARRIERS} barriers")));
     assert!(help.lines().all(|line| line.len() <= 80), "{help}");
 }

@@ -1,8 +1,14 @@
 //! A short readable text to a case, so that people can file cases by hand.
 
+mod front;
+pub mod trace;
+mod words;
+
 use crate::case::{unprintable, Case, Class, Dependency, Event, Order};
-use crate::limits::{ADDRESSES, DEPENDENCIES, EVENTS, FIRST, NAME, SECOND, THREADS, VALUE};
+use crate::limits::{DEPENDENCIES, EVENTS, FIRST, NAME, SECOND};
+use front::Front;
 use std::fmt;
+use words::{lines, number, once, split, Checked};
 
 /// What the text may say.
 pub const HELP: &str = "\
@@ -46,14 +52,13 @@ impl fmt::Display for Error {
     }
 }
 
-type Checked<T> = Result<T, String>;
+impl std::error::Error for Error {}
 
 /// The case that a text describes. It can be read, but it need not be accepted.
 pub fn parse(text: &str) -> Result<Case, Error> {
     let mut draft = Draft::new();
-    for (i, line) in text.lines().enumerate() {
-        draft.line = i + 1;
-        let line = line.split('#').next().unwrap_or("").trim();
+    for (number, line) in lines(text) {
+        draft.line = number;
         let taken = draft.take(line);
         taken.map_err(|message| draft.error(message))?;
     }
@@ -63,10 +68,10 @@ pub fn parse(text: &str) -> Result<Case, Error> {
 /// What the lines so far have said.
 struct Draft {
     line: usize,
+    front: Front,
     case: Case,
     /// The edition that a line states.
     edition: Option<u32>,
-    addresses: Vec<String>,
     /// For each address, the line that gave its write order.
     written: Vec<Option<usize>>,
     /// For each thread, the line that gave its order.
@@ -77,9 +82,9 @@ impl Draft {
     fn new() -> Draft {
         Draft {
             line: 1,
+            front: Front::default(),
             case: Case::empty(0, 0),
             edition: None,
-            addresses: Vec::new(),
             written: Vec::new(),
             ordered: Vec::new(),
         }
@@ -96,13 +101,14 @@ impl Draft {
             "" => Ok(()),
             "edition" => self.take_edition(rest.trim()),
             "name" => self.take_name(rest.trim()),
-            "threads" => self.take_threads(rest.trim()),
+            "threads" => self.take_threads(rest),
             "addresses" => self.take_addresses(rest),
-            "initial" => self.take_initial(rest),
+            "initial" => self.front.take_initial(rest),
             "event" => self.take_event(rest),
             "dependency" => self.take_dependency(rest),
             "write-order" => self.take_write_order(rest),
             "order" => self.take_order(rest),
+            "trace" => Err("the text of a trace says so in its first line".to_string()),
             _ => Err(format!(
                 "a line starts with edition, name, threads, addresses, initial, event, \
                  dependency, write-order or order, not with '{word}'"
@@ -146,36 +152,17 @@ impl Draft {
     }
 
     fn take_threads(&mut self, count: &str) -> Checked<()> {
-        once(self.case.threads() == 0, "threads")?;
-        let count = number(count, 1, THREADS)?;
-        self.case.orders = vec![Order::new(); count];
-        self.ordered = vec![None; count];
+        self.front.take_threads(count)?;
+        self.case.orders = vec![Order::new(); self.front.threads];
+        self.ordered = vec![None; self.front.threads];
         Ok(())
     }
 
     fn take_addresses(&mut self, names: &str) -> Checked<()> {
-        once(self.addresses.is_empty(), "addresses")?;
-        self.addresses = names.split_whitespace().map(String::from).collect();
-        let count = self.addresses.len();
-        if count == 0 || count > ADDRESSES {
-            return Err(format!("name 1 to {ADDRESSES} addresses"));
-        }
-        for (i, name) in self.addresses.iter().enumerate() {
-            if self.addresses[..i].contains(name) {
-                return Err(format!("two addresses are named '{name}'"));
-            }
-        }
-        self.case.initial = vec![0; count];
+        self.front.take_addresses(names)?;
+        let count = self.front.addresses.len();
         self.case.write_orders = vec![Vec::new(); count];
         self.written = vec![None; count];
-        Ok(())
-    }
-
-    fn take_initial(&mut self, values: &str) -> Checked<()> {
-        for word in values.split_whitespace() {
-            let (address, value) = self.access(word)?;
-            self.case.initial[address] = value;
-        }
         Ok(())
     }
 
@@ -183,7 +170,7 @@ impl Draft {
         let words: Vec<&str> = event.split_whitespace().collect();
         let (&kind, rest) = words.split_first().unwrap_or((&"", &[]));
         let (&thread, access) = rest.split_first().unwrap_or((&"", &[]));
-        let thread = self.thread(thread)?;
+        let thread = self.front.thread(thread)?;
         let access = access.concat();
         let event = match kind {
             "sync" if access.is_empty() => Event::sync(thread),
@@ -196,11 +183,11 @@ impl Draft {
                 return Err(format!("{article} {kind} has no address: '{access}'"));
             }
             "load" => {
-                let (address, value) = self.access(&access)?;
+                let (address, value) = self.front.access(&access)?;
                 Event::load(thread, address, value)
             }
             "store" => {
-                let (address, value) = self.access(&access)?;
+                let (address, value) = self.front.access(&access)?;
                 Event::store(thread, address, value)
             }
             _ => {
@@ -245,7 +232,7 @@ impl Draft {
 
     fn take_write_order(&mut self, line: &str) -> Checked<()> {
         let (address, stores) = split(line, ':', "write-order x: 0 3")?;
-        let address = self.address(address)?;
+        let address = self.front.address(address)?;
         once(self.written[address].is_none(), "this write-order")?;
         self.written[address] = Some(self.line);
         let stores = stores.split_whitespace().map(|e| self.event(e));
@@ -257,7 +244,7 @@ impl Draft {
         let example = "order 0 closed: 0<1<2, 0<5";
         let (head, chains) = split(line, ':', example)?;
         let (thread, keyword) = split(head, ' ', example)?;
-        let thread = self.thread(thread)?;
+        let thread = self.front.thread(thread)?;
         once(self.ordered[thread].is_none(), "this thread's order")?;
         self.ordered[thread] = Some(self.line);
         let mut order = self.chains(chains)?;
@@ -286,29 +273,6 @@ impl Draft {
         Ok(order)
     }
 
-    /// `x=1` as an address and a value.
-    fn access(&self, word: &str) -> Checked<(usize, u32)> {
-        let (address, value) = split(word, '=', "x=1")?;
-        let value = number(value, 0, VALUE as usize)? as u32;
-        Ok((self.address(address)?, value))
-    }
-
-    fn address(&self, name: &str) -> Checked<usize> {
-        if self.addresses.is_empty() {
-            return Err("first give the addresses, as in: addresses x y".into());
-        }
-        let found = self.addresses.iter().position(|a| a == name);
-        let all = self.addresses.join(" ");
-        found.ok_or_else(|| format!("no address is named '{name}' (there are: {all})"))
-    }
-
-    fn thread(&self, word: &str) -> Checked<usize> {
-        match self.case.threads() {
-            0 => Err("first say how many threads there are, as in: threads 2".into()),
-            count => number(word, 0, count - 1).map_err(|fault| format!("thread: {fault}")),
-        }
-    }
-
     fn event(&self, word: &str) -> Checked<usize> {
         match self.case.events.len() {
             0 => Err("first list the events".into()),
@@ -317,22 +281,19 @@ impl Draft {
     }
 
     fn finish(mut self) -> Result<Case, Error> {
-        if self.case.threads() == 0 {
-            return Err(self.error("no line says how many threads there are".into()));
-        }
-        if self.addresses.is_empty() {
-            return Err(self.error("no line names the addresses".into()));
-        }
-        for address in 0..self.addresses.len() {
+        let front = self.front.finish();
+        front.map_err(|message| self.error(message))?;
+        for address in 0..self.front.addresses.len() {
             self.finish_write_order(address)?;
         }
+        self.case.initial = self.front.initial;
         Ok(self.case)
     }
 
     /// Fills in a write order that needs no line, or checks the one given.
     fn finish_write_order(&mut self, address: usize) -> Result<(), Error> {
         let stores = self.case.stores_to(address);
-        let name = &self.addresses[address];
+        let name = &self.front.addresses[address];
         match self.written[address] {
             None if stores.len() < 2 => self.case.write_orders[address] = stores,
             None => {
@@ -355,33 +316,10 @@ impl Draft {
     }
 }
 
-fn once(first: bool, what: &str) -> Checked<()> {
-    if first {
-        Ok(())
-    } else {
-        Err(format!("{what} was given before"))
-    }
-}
-
-fn number(word: &str, least: usize, most: usize) -> Checked<usize> {
-    match word.parse() {
-        Ok(value) if (least..=most).contains(&value) => Ok(value),
-        _ => Err(format!("'{word}' is not a number from {least} to {most}")),
-    }
-}
-
-/// The two parts, both trimmed.
-fn split<'a>(text: &'a str, mark: char, example: &str) -> Checked<(&'a str, &'a str)> {
-    match text.trim().split_once(mark) {
-        Some((first, second)) => Ok((first.trim(), second.trim())),
-        None => Err(format!("'{}' should look like: {example}", text.trim())),
-    }
-}
-
 #[cfg(test)]
 mod tests {
     use super::*;
-    use crate::limits::PRINTABLE;
+    use crate::limits::{PRINTABLE, THREADS};
 
     const FRONT: &str = "threads 2\naddresses x y\n";
 

@@ -1,18 +1,24 @@
-//! Makes a record out of a short readable text, by the proved writer.
+//! Makes a record or a trace out of a short readable text: a record by the proved writer, and of a trace
+//! the proved reader makes sure that it can be read.
 
 mod built;
 
 use built::built;
+use litmus::read_trace;
+use ordinary::storage::trace_bytes;
+use ordinary::text;
+use std::error::Error;
 use std::io::{self, Read, Write};
 use std::process::ExitCode;
 use std::{env, fs};
 
 const USAGE: &str = "\
-usage: record [TEXT [RECORD]]
+usage: record [TEXT [FILE]]
 
-Reads a case as text from the file TEXT (standard input if there is none, or -)
-and writes its record to the file RECORD (standard output if there is none).
-The case must be readable; whether a model accepts it does not matter here.
+Reads a case or a trace as text from the file TEXT (standard input if there is
+none, or -) and writes the case's record, or the trace, to FILE (standard output
+if there is none). It must be readable; whether a model accepts the case, or
+the trace's steps are enabled, does not matter here.
 
 ";
 
@@ -21,12 +27,12 @@ fn main() -> ExitCode {
     let words: Vec<&str> = words.iter().map(String::as_str).collect();
     let outcome = match words[..] {
         ["--help" | "-h"] => {
-            print!("{USAGE}{}", ordinary::text::HELP);
+            print!("{USAGE}{}\n{}", text::HELP, text::trace::HELP);
             Ok(())
         }
         [] => make("-", None),
         [text] if !text.starts_with("--") => make(text, None),
-        [text, record] => make(text, Some(record)),
+        [text, file] => make(text, Some(file)),
         _ => Err(USAGE.trim().to_string()),
     };
     match outcome {
@@ -45,14 +51,22 @@ fn make(source: &str, target: Option<&str>) -> Result<(), String> {
         source
     };
     let text = text_of(source).map_err(|fault| format!("{shown}: {fault}"))?;
-    let case = ordinary::text::parse(&text).map_err(|fault| format!("{shown}: {fault}"))?;
-    let record = built(&case).record();
-    let record = record.map_err(|refusal| format!("{shown}: {refusal}"))?;
+    let bytes = made(&text).map_err(|fault| format!("{shown}: {fault}"))?;
     let written = match target {
-        Some(file) => fs::write(file, record),
-        None => io::stdout().write_all(&record),
+        Some(file) => fs::write(file, bytes),
+        None => io::stdout().write_all(&bytes),
     };
     written.map_err(|fault| format!("{}: {fault}", target.unwrap_or("standard output")))
+}
+
+/// The bytes of the text's trace, or the record of its case.
+fn made(text: &str) -> Result<Vec<u8>, Box<dyn Error>> {
+    if !text::trace::is_trace(text) {
+        return Ok(built(&text::parse(text)?).record()?);
+    }
+    let bytes = trace_bytes(&text::trace::parse(text)?);
+    read_trace(&bytes)?;
+    Ok(bytes)
 }
 
 fn text_of(source: &str) -> io::Result<String> {
