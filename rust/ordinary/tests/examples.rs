@@ -1,5 +1,8 @@
 //! The files in `examples/` are what `record` makes of their texts, and answer what the table says.
 
+#[path = "examples/traces.rs"]
+mod traces;
+
 use ordinary::answer::{ROOM, UNREPAIRED};
 use ordinary::area::{append, repair};
 use ordinary::judge::{judge, PPCS, PPCW};
