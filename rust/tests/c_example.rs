@@ -271,6 +271,37 @@ fn c_fills_an_area() {
     fills_an_area(OPTIMISED_C, "c_area_optimised");
 }
 
+/// Traces that are accepted, that are not, and bytes that are none.
+fn runs_a_trace(compiler: &[&str], name: &str) {
+    let program = compiled(compiler, &root().join("examples/c/trace.c"), name);
+    for (file, lines) in [
+        (
+            "traces/mp-lwsync.trace",
+            "every step is enabled; 33 bytes\n\
+             thread 0: write 0 barrier 0 write 1\nthread 1: write 0 barrier 0 write 1\n",
+        ),
+        (
+            "traces/mp-lwsync-flag-first.trace",
+            "step 3, of kind 3, is not enabled: condition 3\n",
+        ),
+        (
+            "traces/iriw-syncs-too-early.trace",
+            "step 8, of kind 7, is not enabled: condition 2\n",
+        ),
+        ("README.md", "refused with 3 at byte 0\n"),
+    ] {
+        let found = said(Command::new(&program).arg(file));
+        assert_eq!(found, (lines.to_string(), String::new(), true), "{file}");
+    }
+    assert!(!run(&program, "no such file").status.success());
+}
+
+#[test]
+fn c_runs_a_trace() {
+    runs_a_trace(C, "c_trace");
+    runs_a_trace(OPTIMISED_C, "c_trace_optimised");
+}
+
 /// Every field lies in C where it lies in Rust.
 #[test]
 fn structs_lie_alike() {

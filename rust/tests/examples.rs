@@ -3,7 +3,7 @@
 mod common;
 
 use common::plain;
-use ordinary::answer::UNPRINTABLE;
+use ordinary::answer::{ENDS, UNPRINTABLE};
 use ordinary::judge::{judge, PPCS, PPCW, RULES};
 use ordinary::tally::Tally;
 use ordinary::Answer;
@@ -48,6 +48,26 @@ fn records() {
     }
     tally.assert_each("numbers", RULES, 1);
     tally.assert_each("numbers", [0], 10);
+}
+
+/// As they are, and cut short.
+#[test]
+fn traces() {
+    let table = fs::read_to_string(folder().join("traces/answers.txt")).expect("a table");
+    for line in table.lines().filter(|line| !line.starts_with('#')) {
+        let mut words = line.split_whitespace();
+        let name = words.next().expect(line);
+        let bytes = fs::read(folder().join(format!("traces/{name}.trace"))).expect(name);
+        let answer = litmus::trace_raw(&bytes);
+        let [number, step, condition] = [0; 3].map(|_| words.next().unwrap_or("0").parse());
+        assert_eq!(Ok(answer.number), number, "{name}");
+        assert_eq!(Ok(answer.step as u32), step, "{name}");
+        assert_eq!(Ok(answer.condition), condition, "{name}");
+        for cut in 0..bytes.len() {
+            let answer = litmus::trace_raw(&bytes[..cut]);
+            assert_eq!(answer.number, ENDS, "{name}");
+        }
+    }
 }
 
 /// What an example prints that is handed a file.
@@ -108,6 +128,26 @@ fn an_area_is_kept() {
     assert_eq!(
         example("keep_an_area", &folder().join("dekker.litmus")),
         "after 77 stores:\nafter 78 stores:\n    Dekker\n"
+    );
+}
+
+#[test]
+fn a_trace_is_run() {
+    let run = |name| example("run_a_trace", &folder().join("traces").join(name));
+    assert_eq!(
+        run("corr-in-order.trace"),
+        "accept write 0 by thread 0: 1 to address 0\n\
+         accept write 1 by thread 0: 2 to address 0\n\
+         propagate write 0 to thread 1\nread by thread 1: 1 from address 0\n\
+         propagate write 1 to thread 1\nread by thread 1: 2 from address 0\n\
+         every step is enabled\ncoherence of address 0: writes 0<1\n\
+         propagated to thread 0: write 0, write 1\npropagated to thread 1: write 0, write 1\n"
+    );
+    assert_eq!(
+        run("coww.trace"),
+        "accept write 0 by thread 0: 1 to address 0\n\
+         accept write 1 by thread 0: 2 to address 0\ncommit write 1 before write 0\n\
+         step 2 is not enabled: condition 2 on a coherence commitment fails: writes 1 and 0 are already related by coherence\n"
     );
 }
 

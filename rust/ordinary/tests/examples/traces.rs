@@ -105,13 +105,23 @@ fn the_guide_says_the_same() {
     }
 }
 
-/// The trace that the description of the format shows, as bytes and as text.
+/// The trace that the description of the format shows byte by byte.
 #[test]
 fn the_annotated_trace_is_the_example() {
     let guide = text_file("../docs/FORMAT.md");
     let bytes = annotated(&guide, "## An example: the trace `mp-lwsync`");
     assert_eq!(bytes, file("traces/mp-lwsync.trace"));
-    let text = text_file("traces/mp-lwsync.txt");
-    let indented: Vec<String> = text.lines().map(|line| format!("    {line}")).collect();
-    assert!(guide.contains(&indented.join("\n")));
+}
+
+/// The texts that the guides show are those of the examples.
+#[test]
+fn the_texts_in_the_guides_are_the_examples() {
+    for (guide, name) in [
+        ("../docs/FORMAT.md", "mp-lwsync"),
+        ("../README.md", "mp-lwsync-flag-first"),
+    ] {
+        let text = text_file(&format!("traces/{name}.txt"));
+        let indented: Vec<String> = text.lines().map(|line| format!("    {line}")).collect();
+        assert!(text_file(guide).contains(&indented.join("\n")), "{guide}");
+    }
 }
