@@ -25,25 +25,34 @@ fn record(words: &[&Path], text: &str) -> Output {
     child.wait_with_output().expect("it ends")
 }
 
-/// All of them.
-#[test]
-fn makes_the_examples() {
-    let table = fs::read_to_string(example("answers.txt")).expect("a table");
+/// The examples of a folder in `examples`, made as files with some ending; gives what is made of each.
+fn makes(folder: &str, ending: &str) -> Vec<Vec<u8>> {
+    let table = fs::read_to_string(example(&format!("{folder}answers.txt"))).expect("a table");
     let lines = table.lines().filter(|line| !line.starts_with('#'));
     let names = lines.filter_map(|line| line.split_whitespace().next());
-    let mut editions = [0; 2];
-    for name in names {
-        let expected = fs::read(example(&format!("{name}.litmus"))).expect("an example");
-        let text = example(&format!("{name}.txt"));
+    let make = |name| {
+        let expected = fs::read(example(&format!("{folder}{name}.{ending}"))).expect("an example");
+        let text = example(&format!("{folder}{name}.txt"));
         assert_eq!(record(&[&text], "").stdout, expected, "{name}");
         let source = fs::read_to_string(&text).expect("a text");
         assert_eq!(record(&[], &source).stdout, expected, "{name}");
-        let target = Path::new(env!("CARGO_TARGET_TMPDIR")).join("made.litmus");
+        let target = Path::new(env!("CARGO_TARGET_TMPDIR")).join(format!("made.{ending}"));
         assert!(record(&[&text, &target], "").status.success());
         assert_eq!(fs::read(target).expect("it was made"), expected, "{name}");
-        editions[usize::from(expected[0]) - 1] += 1;
+        expected
+    };
+    names.map(make).collect()
+}
+
+/// All of them.
+#[test]
+fn makes_the_examples() {
+    let mut editions = [0; 2];
+    for record in makes("", "litmus") {
+        editions[usize::from(record[0]) - 1] += 1;
     }
     assert!(editions.iter().all(|&count| count > 4), "{editions:?}");
+    assert!(makes("traces/", "trace").len() > 20);
 }
 
 #[test]
@@ -80,6 +89,65 @@ fn says_what_is_wrong() {
     let three = [Path::new("a"); 3];
     let usage = record(&three, "").stderr;
     assert!(usage.starts_with(b"usage: record"));
+}
+
+/// The bytes of a trace whose steps need not be enabled.
+#[test]
+fn makes_a_trace() {
+    let text = "# a trace\ntrace\nthreads 2\naddresses x y\ninitial y=300\n\
+        accept write y=128 by thread 1\naccept sync by thread 0\naccept lwsync by thread 1\n\
+        propagate write 0 to thread 0\npropagate barrier 1 to thread 0\n\
+        commit write 0 before write 0\nread x=5 by thread 0\nacknowledge barrier 1\n";
+    let parts: [&[u8]; 10] = [
+        &[2, 2, 0, 0xac, 2],
+        &[8],
+        &[1, 1, 1, 0x80, 1],
+        &[2, 0, 0],
+        &[2, 1, 1],
+        &[3, 0, 0],
+        &[4, 1, 0],
+        &[5, 0, 0],
+        &[6, 0, 0, 5],
+        &[7, 1],
+    ];
+    assert_eq!(record(&[], text).stdout, parts.concat());
+}
+
+#[test]
+fn says_what_is_wrong_with_a_trace() {
+    let front = "trace\nthreads 2\naddresses x\n";
+    let write = "accept write x=1 by thread 0\n";
+    for (lines, message) in [
+        (
+            "accept write x=1 by thread 2\n".to_string(),
+            "line 4: thread: '2' is not a number from 0 to 1",
+        ),
+        (
+            "# a comment\npropagate write 0 to thread 1\n".to_string(),
+            "line 5: no line above accepts a write",
+        ),
+        (
+            write.to_string() + "commit write 0 before write 1\n",
+            "line 5: write: '1' is not a number from 0 to 0",
+        ),
+        (
+            write.repeat(17),
+            "line 20: a trace accepts at most 16 writes",
+        ),
+        (
+            "acknowledge 0\n".to_string(),
+            "line 4: 'acknowledge 0' should look like: acknowledge barrier 0",
+        ),
+        (
+            "event sync 0\n".to_string(),
+            "line 4: a line starts with threads, addresses, initial, accept, propagate, commit, read or acknowledge, not with 'event'",
+        ),
+    ] {
+        let output = record(&[], &format!("{front}{lines}"));
+        assert!(!output.status.success() && output.stdout.is_empty());
+        let errors = String::from_utf8_lossy(&output.stderr);
+        assert_eq!(errors, format!("standard input: {message}\n"));
+    }
 }
 
 /// The greatest value, as an initial one, stored and loaded.
