@@ -9,12 +9,12 @@ use lib.Dec.{eqb, ltb, T}
 use lib.ListN.{getD}
 use borrow.Author.Tests.{lt-ltb, ltb-true}
 use Rattle.finite.specs.Tests.{all, some, _⇒_}
-use Rattle.finite.proofs.Tests.{iff, and-l, and-r, and-i, or-l, or-r, or-e, and-true, and-false, all-same, some-same, some-make, same-test, all-iff, and-iff, imp-iff}
+use Rattle.finite.proofs.Tests.{iff, and-l, and-r, and-i, and-true, and-false, all-same, some-same, some-make, some-out, some-or, or-comm, same-test, all-iff, and-iff, imp-iff}
 use Rattle.bits.specs.Bit.{bit}
 use Rattle.bits.proofs.Bits.{bit-zero, bit-and, bit-or}
 use Rattle.rows.specs.Sets.{Set, Sets, orderIn, rowIn, setIn, storeIn, lightIn}
 use Rattle.rows.specs.May.{Relation, pairs, mustRead, may18}
-use Rattle.rows.proofs.SetLaws.{either, set-as, set-same, set-below, share, as-set, imp-yes, some-out}
+use Rattle.rows.proofs.SetLaws.{either, set-as, set-same, set-below, share, as-set, imp-yes}
 use Rattle.values.specs.Parts.{threadIn, explained, carried}
 use Rattle.values.proofs.Laws.{store-by-store}
 use Rattle.by_columns.specs.Parts.{WithColumns, Joined, Shared, appliesIn, replaced, carriedTo, readIn, behindIn, carriedBehind}
@@ -266,16 +266,6 @@ joined-columns {n} t s = record {
 
 -- ---- the events of pairs
 
-some-either : (k : ℕ) (f g : ℕ → Bool) → (some k f || some k g) ≡ some k (λ x. g x || f x)
-some-either k f g =
-    iff
-    (λ h. or-e (some k f) (some k g)
-    (λ t. some-out k f t (λ x l u. some-make k (λ x. g x || f x) x l (or-r (g x) (f x) u)))
-    (λ t. some-out k g t (λ x l u. some-make k (λ x. g x || f x) x l (or-l (g x) (f x) u))) h)
-    (λ h. some-out k (λ x. g x || f x) h (λ x l u. or-e (g x) (f x)
-    (λ t. or-r (some k f) (some k g) (some-make k g x l t))
-    (λ t. or-l (some k f) (some k g) (some-make k f x l t)) u))
-
 -- by what rows and columns hold
 pub paired-set : {n k : ℕ} {rows columns : List ℕ} (p : ℕ) {after before mask r : ℕ} → WithColumns n k rows columns → p < n → Set after (λ e. some k (λ a. orderIn rows p a e))
     → Set before (λ e. some k (λ a. orderIn columns p a e)) → mask ≡ 2 ^ k - 1 → r ≡ bitAnd (bitOr after before) mask → Set r (λ e. ltb e k && pairs k (orderIn rows) p e)
@@ -286,7 +276,8 @@ paired-set {n} {k} {rows} {columns} p t lp s u m h = set-same (set-as h (share (
     by e true l =
         and-true (some k (λ a. orderIn rows p a e) || some k (λ a. orderIn columns p a e))
         ∙ ap (λ z. some k (λ a. orderIn rows p a e) || z) (some-same k _ _ (λ a la. t .turned .turned p lp e (ltb-true e k l) a la))
-        ∙ some-either k (λ a. orderIn rows p a e) (λ a. orderIn rows p e a)
+        ∙ or-comm (some k (λ a. orderIn rows p a e)) (some k (λ a. orderIn rows p e a))
+        ∙ sym (some-or k (λ a. orderIn rows p e a) (λ a. orderIn rows p a e))
     by e false l = and-false (some k (λ a. orderIn rows p a e) || some k (λ a. orderIn columns p a e))
 
 -- under one that fails

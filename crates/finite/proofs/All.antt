@@ -65,6 +65,11 @@ module _ {A : Type 0} (P : A → Type 0) where
   all-at (a ∷ as′) h zero d l = h .0
   all-at (a ∷ as′) h (suc i) d l = all-at as′ (h .1) i d (le-of-suc-le-suc l)
 
+  -- what holds at every place
+  pub all-places : (l : List A) (d : A) → ((i : ℕ) → i < length l → P (getD l i d)) → All P l
+  all-places [] d f = tt
+  all-places (a ∷ as′) d f = (f 0 (omega arith), all-places as′ d (λ i h. f (suc i) (omega arith)))
+
   pub all-table : (i j : ℕ) (f : ℕ → A) → ((y : ℕ) → y < i + j → P (f y)) → All P (table i j f)
   unfolding table
   all-table i zero f h = tt

@@ -1,4 +1,4 @@
--- Laws of `table` and `each`.
+-- Laws of lists, of `table` and of `each`.
 -- Assumes nothing.
 use Prim.Native.Nat.{ℕ, zero, suc, _+_, _-_, _≤_, _<_}
 use native.Mathlib.Nat.{add-zero, add-suc, suc-add, zero-add, not-suc-le-zero, le-of-suc-le-suc}
@@ -6,9 +6,13 @@ use native.Mathlib.Numerals.{add-one}
 use native.Mathlib.Omega.{arith}
 use mathlib.Core.Path.{_≡_, refl, sym, ap, ap₂, _∙_}
 use mathlib.Core.List.{List, [], _∷_, _++_, append-assoc}
-use lib.ListN.{length, getD}
+use lib.ListN.{length, getD, length-append}
 use lib.Seq.{ext-getD}
 use Rattle.finite.specs.Lists.{table, each}
+
+-- a list with one more is one longer
+pub one-longer : {A : Type 0} (l : List A) (a : A) → length (l ++ (a ∷ [])) ≡ suc (length l)
+one-longer l a = length-append l (a ∷ []) ∙ add-one (length l)
 
 module _ {A : Type 0} where
   pub table-at : (i j : ℕ) (f : ℕ → A) (x : ℕ) (d : A) → x < j → getD (table i j f) x d ≡ f (i + x)

@@ -9,7 +9,7 @@ use borrow.Author.Tests.{not-true, not-false, lt-ltb, ltb-true, eq-eqb, eqb-true
 use lib.Dec.{ltb, eqb}
 use native.Mathlib.Numerals.{add-one}
 use native.Mathlib.Omega.{arith}
-use native.Mathlib.Decide.{decLe}
+use native.Mathlib.Decide.{decLe, ℕ-discrete}
 use mathlib.Core.Logic.{_↔_}
 use lib.Dec.{T}
 use Rattle.finite.specs.Tests.{all, some, count, tick, _⇒_}
@@ -41,6 +41,10 @@ and-true false = refl
 pub and-false : (x : Bool) → (x && false) ≡ false
 and-false true = refl
 and-false false = refl
+
+pub and-comm : (x y : Bool) → (x && y) ≡ (y && x)
+and-comm true y = sym (and-true y)
+and-comm false y = sym (and-false y)
 
 pub imp-e : (x y : Bool) → (x ⇒ y) ≡ true → x ≡ true → y ≡ true
 imp-e true y h e = h
@@ -75,6 +79,10 @@ or-right : (x : Bool) → (x || true) ≡ true
 or-right true = refl
 or-right false = refl
 
+pub or-comm : (x y : Bool) → (x || y) ≡ (y || x)
+or-comm true y = sym (or-right y)
+or-comm false y = sym (or-false y)
+
 pub or-e : {G : Type 0} (x y : Bool) → (x ≡ true → G) → (y ≡ true → G) → (x || y) ≡ true → G
 or-e true y f g h = f refl
 or-e false y f g h = g h
@@ -101,9 +109,12 @@ unfolding all
 all-make zero p f = refl
 all-make (suc n) p f = and-i (all n p) (p n) (all-make n p (λ i l. f i (omega arith))) (f n (le-refl (suc n)))
 
+pub all-next : (n : ℕ) (p : ℕ → Bool) → all (n + 1) p ≡ (all n p && p n)
+all-next n p = ap (λ (m : ℕ). all m p) (add-one n) ∙ all-suc n p
+
 -- one more turn of a loop
 pub all-more : (n : ℕ) (p : ℕ → Bool) → all n p ≡ true → p n ≡ true → all (n + 1) p ≡ true
-all-more n p h e = subst (λ (k : ℕ). all k p ≡ true) (sym (add-one n)) (all-suc n p ∙ and-i (all n p) (p n) h e)
+all-more n p h e = all-next n p ∙ and-i (all n p) (p n) h e
 
 -- a turn that fails
 pub all-not : (n : ℕ) (p : ℕ → Bool) (i : ℕ) → i < n → p i ≡ false → all n p ≡ false
@@ -189,6 +200,12 @@ some-make (suc n) p i l e =
     ⊎-elim (λ s. or-r (some n p) (p n) (subst (λ (k : ℕ). p k ≡ true) s e)) (λ lt. or-l (some n p) (p n) (some-make n p i lt e))
     (eq-or-lt-of-le (le-of-suc-le-suc l))
 
+-- what follows where it passes, whichever number it is
+pub some-out : {G : Type 0} (n : ℕ) (p : ℕ → Bool) → some n p ≡ true → ((i : ℕ) → i < n → p i ≡ true → G) → G
+unfolding some
+some-out zero p h f = absurd (false≢true h)
+some-out (suc n) p h f = or-e (some n p) (p n) (λ t. some-out n p t (λ i l. f i (omega arith))) (f n (le-refl (suc n))) h
+
 -- where it fails everywhere
 pub some-none : (n : ℕ) (p : ℕ → Bool) → ((i : ℕ) → i < n → p i ≡ false) → some n p ≡ false
 unfolding some
@@ -199,6 +216,28 @@ pub some-same : (n : ℕ) (p q : ℕ → Bool) → ((i : ℕ) → i < n → p i 
 unfolding some
 some-same zero p q f = refl
 some-same (suc n) p q f = ap₂ _||_ (some-same n p q (λ i l. f i (omega arith))) (f n (le-refl (suc n)))
+
+-- of either of two tests
+pub some-or : (n : ℕ) (p q : ℕ → Bool) → some n (λ i. p i || q i) ≡ (some n p || some n q)
+unfolding some
+some-or zero p q = refl
+some-or (suc n) p q = ap (λ t. t || (p n || q n)) (some-or n p q) ∙ mixed (some n p) (some n q) (p n) (q n)
+  where
+    mixed : (a b c d : Bool) → ((a || b) || (c || d)) ≡ ((a || c) || (b || d))
+    mixed true b c d = refl
+    mixed false true true d = refl
+    mixed false true false d = refl
+    mixed false false c d = refl
+
+-- a test that does not depend on the number goes outside
+pub some-and : (n : ℕ) (x : Bool) (p : ℕ → Bool) → some n (λ i. x && p i) ≡ (x && some n p)
+some-and n true p = refl
+some-and n false p = some-none n (λ i. false) (λ i l. refl)
+
+-- a test that passes below n only, asked of m numbers
+pub some-within : (n m : ℕ) (p : ℕ → Bool) → n ≤ m → ((i : ℕ) → p i ≡ true → i < n) → some m p ≡ some n p
+some-within n m p l f =
+    iff (λ h. some-out m p h (λ i _ t. some-make n p i (f i t) t)) (λ h. some-out n p h (λ i li t. some-make m p i (omega (arith, l, li)) t))
 
 -- a loop `for i in 0..n { if test(i) { return true; } } false`, whose test answers x at i
 module _ (n : ℕ) (p : ℕ → Bool) (i : ℕ) where
@@ -246,6 +285,30 @@ pub count-le : (n : ℕ) (p : ℕ → Bool) → count n p ≤ n
 unfolding count
 count-le zero p = omega arith
 count-le (suc n) p = omega (arith, count-le n p, tick-le (p n))
+
+-- fewer numbers pass p where all that pass p pass q
+tick-part : (x y : Bool) → (x ≡ true → y ≡ true) → tick x ≤ tick y
+tick-part true y h = rw (h refl) (omega arith)
+tick-part false y h = omega arith
+
+count-part : (n : ℕ) (p q : ℕ → Bool) → ((i : ℕ) → i < n → p i ≡ true → q i ≡ true) → count n p ≤ count n q
+unfolding count
+count-part zero p q h = omega arith
+count-part (suc n) p q h = omega (arith, count-part n p q (λ i l. h i (omega arith)), tick-part (p n) (q n) (h n (omega arith)))
+
+less-at : (n : ℕ) (p q : ℕ → Bool) (j : ℕ) → ((i : ℕ) → i < suc n → p i ≡ true → q i ≡ true) → j < suc n → q j ≡ true → p j ≡ false
+    → (j < n → count n p < count n q) → Dec (j ≡ n) → count (suc n) p < count (suc n) q
+unfolding count
+less-at n p q j h l t f below (yes e) =
+    let tp : tick (p n) ≡ 0 = ap tick (ap p (sym e) ∙ f) in
+    let tq : tick (q n) ≡ 1 = ap tick (ap q (sym e) ∙ t) in
+    omega (arith, count-part n p q (λ i l. h i (omega arith)))
+less-at n p q j h l t f below (no d) = omega (arith, below (omega arith), tick-part (p n) (q n) (h n (omega arith)))
+
+-- all that pass p pass q, and j passes q alone
+pub count-less : (n : ℕ) (p q : ℕ → Bool) → ((i : ℕ) → i < n → p i ≡ true → q i ≡ true) → (j : ℕ) → j < n → q j ≡ true → p j ≡ false → count n p < count n q
+count-less zero p q h j l t f = absurd (omega arith)
+count-less (suc n) p q h j l t f = less-at n p q j h l t f (λ lj. count-less n p q (λ i l. h i (omega arith)) j lj t f) (ℕ-discrete j n)
 
 -- ---- equal numbers
 

@@ -13,6 +13,7 @@ use borrow.Author.Tests.{leb-true, ne-eqb}
 use Rattle.finite.specs.Tests.{count}
 use Rattle.finite.specs.Lists.{each, every, All, AllFrom}
 use Rattle.finite.proofs.Tests.{and-l, and-r, count-le}
+use Rattle.finite.proofs.Lists.{one-longer}
 use Rattle.finite.proofs.All.{all-map, all-make, all-three}
 use Rattle.number.specs.Number.{groups, encode}
 use Rattle.number.specs.Reader.{Out, stop, next, give, _>>=_, turns, another, times, upTo, below}
@@ -25,7 +26,6 @@ use Rattle.model.specs.Written.{eventBytes, dependencyBytes, dependenciesBytes,
 use Rattle.model.specs.Fault.{eventGood, firstFault, dependencyWithin, dependencyFault, writeFault, writesFault, nameFault, fault}
 use Rattle.model.specs.Answers.{answerOf}
 use Rattle.model.specs.Fits.{Shaped, Numbers, Stated, asFault}
-use Rattle.model.proofs.WriteOrders.{one-longer}
 use Rattle.model.proofs.Faultless.{passed, between-least, between-most, least-first, least-next, else-first}
 use Rattle.laws.proofs.Names.{reads-bytes}
 use Rattle.laws.proofs.ReadOrder.{reads-all-orders}

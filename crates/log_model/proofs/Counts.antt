@@ -14,7 +14,7 @@ use borrow.Author.Tests.{eqb-true, leb-true, lt-ltb, le-ltb, le-leb, lt-leb, eq-
 use Rattle.finite.specs.Tests.{tick}
 use Rattle.finite.specs.Lists.{table, every}
 use Rattle.finite.proofs.Tests.{and-l, and-r, and-i, or-e}
-use Rattle.finite.proofs.Lists.{table-at, table-length, table-same}
+use Rattle.finite.proofs.Lists.{one-longer, table-at, table-length, table-same}
 use Rattle.number.specs.Reader.{Out, stop, next}
 use Rattle.model.specs.Case.{Case}
 use Rattle.model.specs.Rules.{firstRule, lastRule, Model, PPCs, orElse, rule11, rule12, rule13, rule14, rule15, rule16, rule17, rule18, verdict}
@@ -191,7 +191,7 @@ tallied-of us (v ∷ vs) e h l = go (decLt (length us) mostCount)
     W = verdict-of v (and-l (isVerdict v) (every isVerdict vs) h)
 
     size : length (us ++ (v ∷ [])) ≡ suc (length us)
-    size = length-append us (v ∷ []) ∙ omega arith
+    size = one-longer us v
 
     go : Dec (length us < mostCount)
         → (length (us ++ (v ∷ [])) ≤ mostCount → tallied (tallyOf (us ++ (v ∷ []))) vs e

@@ -1,17 +1,14 @@
 -- Write orders that fit, by their addresses.
 -- Assumes nothing.
-use Prim.Native.Nat.{ℕ, suc}
-use native.Mathlib.Numerals.{add-one}
-use mathlib.Core.Path.{_≡_, _∙_}
+use Prim.Native.Nat.{ℕ}
+use mathlib.Core.Path.{_≡_}
 use mathlib.Core.Bool.{Bool}
 use mathlib.Core.List.{List, [], _∷_, _++_}
-use lib.ListN.{length, length-append}
+use lib.ListN.{length}
 use Rattle.finite.specs.Tests.{count}
 use Rattle.finite.specs.Lists.{AllFrom}
+use Rattle.finite.proofs.Lists.{one-longer}
 use Rattle.model.specs.Fits.{WriteFits, WritesFit}
-
-pub one-longer : {A : Type 0} (l : List A) (a : A) → length (l ++ (a ∷ [])) ≡ suc (length l)
-one-longer l a = length-append l (a ∷ []) ∙ add-one (length l)
 
 -- write orders that fit are each as long as there are stores to its address, and list those
 module _ (k : ℕ) (mine : ℕ → ℕ → Bool) where

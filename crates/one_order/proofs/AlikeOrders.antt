@@ -10,13 +10,12 @@ use lib.Bits.{bitOr, bitXor, and-le-l, and-le-r, or-add-and, xor-add-and, or-zer
 use lib.Dec.{eqb}
 use borrow.Author.Tests.{eqb-true, eq-eqb, not-false}
 use Rattle.finite.specs.Tests.{all, _⇒_}
-use Rattle.finite.proofs.Tests.{iff, and-i, and-l, and-r, imp-e, imp-i, all-none, all-get, all-make, all-more, all-same}
+use Rattle.finite.proofs.Tests.{iff, and-i, and-l, and-r, imp-e, imp-i, all-none, all-next, all-get, all-make, all-more, all-same}
 use Rattle.bits.specs.Bit.{bit}
 use Rattle.rows.specs.Sets.{rowIn, orderIn}
 use Rattle.rows.specs.May.{may11, may17, may18}
 use Rattle.orders.specs.Parts.{closed}
 use Rattle.one_order.specs.Alike.{asFirst, alikeIn}
-use Rattle.one_order.proofs.Joins.{all-next}
 
 -- ---- the loop over a thread's rows: what was found is nothing where the first i are the first thread's
 pub differ-none : (found x y : ℕ) → eqb (bitOr found (bitXor x y)) 0 ≡ (eqb found 0 && eqb x y)

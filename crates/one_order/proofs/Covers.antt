@@ -11,7 +11,7 @@ use lib.Count.{trailingZeros}
 use lib.Dec.{eqb, ltb}
 use borrow.Author.Tests.{eqb-true, eq-eqb, ltb-true, lt-ltb, not-true, not-false}
 use Rattle.finite.specs.Tests.{all, count, _⇒_}
-use Rattle.finite.proofs.Tests.{and-l, and-r, and-i, or-l, or-r, or-e, imp-e, imp-i, is-false, all-get, all-make, all-same, all-not}
+use Rattle.finite.proofs.Tests.{and-l, and-r, and-i, or-l, or-r, or-e, imp-e, imp-i, is-false, all-get, all-make, all-same, all-not, count-less}
 use Rattle.bits.specs.Bit.{bit, width}
 use Rattle.bits.proofs.Bits.{bit-zero}
 use Rattle.model.specs.Limits.{mostEvents}
@@ -21,7 +21,7 @@ use Rattle.rows.proofs.Visits.{lowest-in, lowest-out}
 use Rattle.orders.specs.Parts.{closed}
 use Rattle.orders.proofs.Laws.{closed-no}
 use Rattle.one_order.specs.Covers.{Cover, Covered, Tested}
-use Rattle.one_order.proofs.Sizes.{count-less, apart-others}
+use Rattle.one_order.proofs.Disjoint.{apart-others}
 
 -- ---- a covered row is closed, by induction on its size: what follows a through b has the smaller row of b
 module _ (k : ℕ) (before : ℕ → ℕ → Bool) (h : (a : ℕ) → a < k → Covered k before a) where

@@ -2,13 +2,12 @@
 -- Assumes nothing.
 use Prim.Native.Nat.{ℕ, _+_, _-_, _≤_, _<_, min}
 use native.Mathlib.Nat.{le-antisymm}
-use native.Mathlib.Numerals.{add-one}
 use native.Mathlib.Omega.{arith}
 use mathlib.Core.Path.{_≡_, refl, sym, ap, ap₂, _∙_}
 use mathlib.Core.Bool.{Bool, _&&_}
 use lib.Bits.{bitAnd}
 use Rattle.finite.specs.Tests.{all}
-use Rattle.finite.proofs.Tests.{iff, all-suc, all-get, all-make}
+use Rattle.finite.proofs.Tests.{iff, all-next, all-get, all-make}
 use Rattle.bits.specs.Bit.{bit}
 use Rattle.bits.proofs.Bits.{bit-and}
 use Rattle.rows.specs.Sets.{Set}
@@ -21,9 +20,6 @@ pub record Joined (m : ℕ) (f : ℕ → ℕ → Bool) (i acc : ℕ) : Type 0 wh
 all-one : (p : ℕ → Bool) → all 1 p ≡ p 0
 unfolding all
 all-one p = refl
-
-pub all-next : (i : ℕ) (p : ℕ → Bool) → all (i + 1) p ≡ (all i p && p i)
-all-next i p = ap (λ (m : ℕ). all m p) (add-one i) ∙ all-suc i p
 
 -- the last of n numbers once more, for each that is missing up to m
 all-last : (n m : ℕ) (p : ℕ → Bool) → 1 ≤ n → n ≤ m → all m (λ i. p (min i (n - 1))) ≡ all n p

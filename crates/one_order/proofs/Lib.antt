@@ -1,4 +1,4 @@
-pub mod Sizes
+pub mod Disjoint
 pub mod Covers
 pub mod Joins
 pub mod AlikeOrders

@@ -1,11 +1,11 @@
 -- Lists of events where one is appended: what is separated, and what an address holds.
 -- Assumes nothing.
-use Prim.Native.Nat.{ℕ, zero, suc}
+use Prim.Native.Nat.{ℕ}
 use mathlib.Core.Path.{_≡_, refl, sym, ap, ap₂, _∙_}
 use mathlib.Core.Bool.{Bool, true, false, _&&_, _||_, true≢false}
 use mathlib.Core.List.{List, [], _∷_, _++_}
 use Rattle.finite.specs.Tests.{some}
-use Rattle.finite.proofs.Tests.{and-l, and-r, or-l, or-r, or-e, some-none, some-same, and-true, and-false}
+use Rattle.finite.proofs.Tests.{and-l, and-r, or-l, or-r, or-e, some-same, some-or, some-and, and-true, and-false}
 use Rattle.storage_model.specs.Limits.{mostBarriers}
 use Rattle.storage_model.specs.Subsystem.{Event, barrier, same, member, precedes}
 use Rattle.storage_laws.proofs.Lists.{same-is, precedes-append}
@@ -14,21 +14,6 @@ use Rattle.propagated.specs.Lists.{separatedIn, laterOf, latestIn}
 -- a barrier stands behind e
 abbrev pub fencedIn : List Event → Event → Bool
 fencedIn l e = some mostBarriers (λ z. precedes e (barrier z) l)
-
-some-or : (n : ℕ) (p q : ℕ → Bool) → some n (λ i. p i || q i) ≡ (some n p || some n q)
-unfolding some
-some-or zero p q = refl
-some-or (suc n) p q = ap (λ t. t || (p n || q n)) (some-or n p q) ∙ mixed (some n p) (some n q) (p n) (q n)
-  where
-    mixed : (a b c d : Bool) → ((a || b) || (c || d)) ≡ ((a || c) || (b || d))
-    mixed true b c d = refl
-    mixed false true true d = refl
-    mixed false true false d = refl
-    mixed false false c d = refl
-
-some-and : (n : ℕ) (a : Bool) (p : ℕ → Bool) → some n (λ i. a && p i) ≡ (a && some n p)
-some-and n true p = refl
-some-and n false p = some-none n (λ i. false) (λ i l. refl)
 
 -- what stands before an event stands in the list
 before-in : (e f : Event) (l : List Event) → precedes e f l ≡ true → member e l ≡ true

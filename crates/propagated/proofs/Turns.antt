@@ -5,13 +5,13 @@ use Prim.Native.Nat.{ℕ, _+_, _*_, _^_, _≤_, _<_}
 use native.Mathlib.Nat.{le-antisymm}
 use native.Mathlib.Omega.{arith}
 use mathlib.Core.Path.{_≡_, refl, sym, ap, ap₂, _∙_, subst}
-use mathlib.Core.Bool.{Bool, true, false, _&&_, _||_}
+use mathlib.Core.Bool.{Bool, false, _&&_, _||_}
 use mathlib.Core.List.{List, [], _∷_, _++_}
 use lib.Bits.{bitOr}
 use lib.Dec.{eqb, leb}
 use lib.ListN.{getD}
 use Rattle.finite.specs.Tests.{some}
-use Rattle.finite.proofs.Tests.{some-none, and-true, and-false}
+use Rattle.finite.proofs.Tests.{some-none, and-comm}
 use Rattle.bits.specs.Bit.{bit}
 use Rattle.bits.proofs.Bits.{bit-zero}
 use Rattle.rows.specs.Sets.{Set}
@@ -23,10 +23,6 @@ use Rattle.storage.specs.Held.{eventOf, listAt}
 use Rattle.propagated.specs.Lists.{Lists, Once, separatedIn, laterOf, latestIn}
 use Rattle.propagated.proofs.Appended.{fencedIn, separated-append, fenced-append, latest-append}
 use Rattle.propagated.proofs.Entries.{entryAt, is-entry, same-entry, named-barrier, firsts, firsts-none, firsts-more, firsts-all, firsts-new}
-
-and-comm : (a b : Bool) → (a && b) ≡ (b && a)
-and-comm true b = sym (and-true b)
-and-comm false b = sym (and-false b)
 
 -- a set by what a list says of events
 module _ (g : List Event → Event → Bool) where

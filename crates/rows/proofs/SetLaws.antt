@@ -3,10 +3,10 @@
 use Prim.Native.Nat.{ℕ, zero, suc, _-_, _/_, _%_, _^_, _<_}
 use native.Mathlib.Omega.{arith}
 use mathlib.Core.Path.{_≡_, refl, sym, ap, ap₂, _∙_, subst}
-use mathlib.Core.Bool.{Bool, true, false, not, _&&_, _||_, true≢false, false≢true}
-use native.Mathlib.Nat.{le-refl, mod-lt}
+use mathlib.Core.Bool.{Bool, true, false, not, _&&_, _||_, true≢false}
+use native.Mathlib.Nat.{mod-lt}
 use borrow.Author.Tests.{eqb-true, eq-eqb, ltb-true, lt-ltb}
-use Rattle.finite.proofs.Tests.{iff, and-l, and-r, and-i, or-l, or-r, or-e, is-false, some-none, some-same, some-make, all-make, all-same, all-swap, imp-and, imp-all, imp-i}
+use Rattle.finite.proofs.Tests.{iff, and-l, and-r, and-i, or-l, or-r, or-e, is-false, some-none, some-same, some-make, some-out, all-make, all-same, all-swap, imp-and, imp-all, imp-i}
 use lib.Dec.{eqb, ltb}
 use lib.Bits.{bitAnd, bitOr, bitXor, differ, xor-step, xor-shr}
 use lib.Arith.{digits-mod}
@@ -21,12 +21,6 @@ use lib.Pow.{pow-pos}
 abbrev pub other : Bool → Bool → Bool
 other true b = not b
 other false b = b
-
--- what passes at some number
-pub some-out : {G : Type 0} (n : ℕ) (p : ℕ → Bool) → some n p ≡ true → ((i : ℕ) → i < n → p i ≡ true → G) → G
-unfolding some
-some-out zero p h f = absurd (false≢true h)
-some-out (suc n) p h f = or-e (some n p) (p n) (λ t. some-out n p t (λ i l. f i (omega arith))) (f n (le-refl (suc n))) h
 
 -- the same set by another test
 pub set-same : {r : ℕ} {f g : ℕ → Bool} → Set r f → ((e : ℕ) → f e ≡ g e) → Set r g

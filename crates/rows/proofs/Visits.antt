@@ -11,11 +11,10 @@ use lib.Bits.{bitAnd, bitOr, and-le-l, and-le-r}
 use lib.Count.{trailingZeros, under}
 use borrow.Author.Tests.{eqb-true, eq-eqb, ltb-true, lt-ltb, not-true, not-false}
 use Rattle.finite.specs.Tests.{all, some}
-use Rattle.finite.proofs.Tests.{iff, and-l, and-r, and-i, or-l, or-r, or-e, is-false, all-make, all-not, some-make, some-none, some-same, and-true, and-false}
+use Rattle.finite.proofs.Tests.{iff, and-l, and-r, and-i, or-l, or-r, or-e, is-false, all-make, all-not, some-make, some-out, some-none, some-same, and-true, and-false}
 use Rattle.bits.specs.Bit.{bit, width}
 use Rattle.bits.proofs.Bits.{bit-zero, bit-and, bit-or, bit-low, bit-suc}
 use Rattle.rows.specs.Sets.{Set}
-use Rattle.rows.proofs.SetLaws.{some-out}
 
 -- ---- the lowest event of a set
 

@@ -28,11 +28,6 @@ member-at [] i d h = absurd (not-suc-le-zero h)
 member-at (x ∷ l) zero d h = or-l (same x x) (member x l) (same-refl x)
 member-at (x ∷ l) (suc i) d h = or-r (same (getD l i d) x) (member (getD l i d) l) (member-at l i d (omega arith))
 
--- what holds at every place
-pub all-places : {A : Type 0} (P : A → Type 0) (l : List A) (d : A) → ((i : ℕ) → i < length l → P (getD l i d)) → All P l
-all-places P [] d f = tt
-all-places P (x ∷ l) d f = (f 0 (omega arith), all-places P l d (λ i h. f (suc i) (omega arith)))
-
 -- what holds of 0 and of every number of the lists holds at every place of the array, past its end too
 module _ (P : ℕ → Type 0) (p : P 0) where
   padded : (n : ℕ) (xs : List ℕ) → All P xs → All P (pad n xs)

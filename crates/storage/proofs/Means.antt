@@ -13,7 +13,7 @@ use Rattle.finite.specs.Tests.{tick}
 use Rattle.finite.proofs.Tests.{is-false}
 use Rattle.finite.specs.Lists.{table, All}
 use Rattle.finite.proofs.Lists.{table-get, table-length}
-use Rattle.finite.proofs.All.{all-at, all-mapped}
+use Rattle.finite.proofs.All.{all-at, all-mapped, all-places}
 use Rattle.bits.specs.Bit.{bit}
 use Rattle.bits.proofs.Bits.{bit-zero}
 use Rattle.model.specs.Limits.{mostThreads, mostAddresses}
@@ -29,7 +29,7 @@ use Rattle.storage.specs.declared.Storage.{Storage as Held}
 use Rattle.storage.proofs.Events.{entry-low}
 use Rattle.storage.proofs.Sets.{set-bit}
 use Rattle.storage.proofs.Stores.{pad-past, field-past, rows-length, entries-short}
-use Rattle.storage.proofs.Entries.{all-members, all-places, everywhere}
+use Rattle.storage.proofs.Entries.{all-members, everywhere}
 
 -- the lists of a state are short
 pub lists-few : (s : State) → Sound s → Within s → (t : ℕ) → length (events s t) ≤ mostListed

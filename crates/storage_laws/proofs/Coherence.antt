@@ -1,24 +1,18 @@
 -- What a step adds to coherence, said without a closure: coherence is transitive, so that it leads to a new edge, and from it on, at once.
 -- Assumes nothing.
-use Prim.Native.Nat.{ℕ, zero, suc, _<_}
+use Prim.Native.Nat.{ℕ, suc, _<_}
 use native.Mathlib.Omega.{arith}
 use mathlib.Core.Path.{_≡_, refl, sym, _∙_, subst}
-use mathlib.Core.Bool.{Bool, true, _&&_, _||_, false≢true}
+use mathlib.Core.Bool.{Bool, true, _&&_, _||_}
 use mathlib.Core.Logic.{_⊎_, inl, inr}
 use lib.Dec.{eqb}
 use borrow.Author.Tests.{eq-eqb, eqb-true}
 use Rattle.finite.specs.Tests.{some}
-use Rattle.finite.proofs.Tests.{iff, and-l, and-r, and-i, or-l, or-r, or-e, some-make, eqb-sym}
+use Rattle.finite.proofs.Tests.{iff, and-l, and-r, and-i, or-l, or-r, or-e, some-make, some-out, eqb-sym}
 use Rattle.storage_model.specs.Relation.{relation, related, closure}
 use Rattle.storage_model.specs.Subsystem.{State, write, address, arrived, coherent, writesSeen, committed, followed}
 use Rattle.storage_model.specs.Sound.{Sound}
 use Rattle.storage_laws.proofs.Relations.{relation-same, closure-holds, closure-transitive, closure-least, closure-table}
-
--- what passes at some number
-some-out : {G : Type 0} (n : ℕ) (p : ℕ → Bool) → some n p ≡ true → ((i : ℕ) → i < n → p i ≡ true → G) → G
-unfolding some
-some-out zero p h f = absurd (false≢true h)
-some-out (suc n) p h f = or-e (some n p) (p n) (λ t. some-out n p t (λ i l. f i (omega arith))) (f n (omega arith)) h
 
 module _ (s : State) (S : Sound s) where
   -- write a is before write b, or is b

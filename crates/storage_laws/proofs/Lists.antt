@@ -1,14 +1,13 @@
 -- Lists of events, and what is appended to one.
 -- Assumes nothing.
-use Prim.Native.Nat.{ℕ, suc, _<_}
-use native.Mathlib.Numerals.{add-one}
+use Prim.Native.Nat.{ℕ, _<_}
 use native.Mathlib.Omega.{arith}
 use native.Mathlib.Decide.{decLt, ℕ-discrete}
 use mathlib.Core.Path.{_≡_, refl, ap, _∙_}
 use mathlib.Core.Bool.{Bool, true, false, _&&_, _||_, false≢true}
 use mathlib.Core.Logic.{_⊎_, inl, inr}
 use mathlib.Core.List.{List, [], _∷_, _++_}
-use lib.ListN.{length, getD, length-append}
+use lib.ListN.{length, getD}
 use lib.Seq.{getD-set-same, getD-set-other, set-out}
 use borrow.Author.Tests.{eq-eqb, eqb-true}
 use Rattle.finite.proofs.Tests.{or-false}
@@ -56,10 +55,6 @@ precedes-append e f [] x = none (same e x)
     none false = refl
 precedes-append e f (y ∷ l) x =
     rw (member-append f l x, precedes-append e f l x) (spread (same e y) (member f l) (same f x) (precedes e f l) (member e l))
-
--- a list with one more is one longer
-pub one-more : {A : Type 0} (l : List A) (x : A) → length (l ++ (x ∷ [])) ≡ suc (length l)
-one-more l x = length-append l (x ∷ []) ∙ add-one (length l)
 
 -- a thread's list stays, or has e at its end
 pub appended-at : (ls : List (List Event)) (t : ℕ) (e : Event) (u : ℕ)

@@ -1,7 +1,7 @@
 -- What holds after every step that was enabled (02 (ii)): coherence "is transitive and has no cycle, and each thread's list holds the
 -- writes to an address in coherence order".
 -- Assumes nothing.
-use Prim.Native.Nat.{ℕ, zero, suc, _+_, _≤_, _<_}
+use Prim.Native.Nat.{ℕ, zero, suc, _≤_, _<_}
 use native.Mathlib.Nat.{le-refl}
 use native.Mathlib.Omega.{arith}
 use native.Mathlib.Decide.{decLt, ℕ-discrete}
@@ -15,20 +15,20 @@ use lib.Seq.{getD-append-seam, getD-set-same, getD-set-other}
 use borrow.Author.Tests.{eq-eqb, eqb-true, not-true}
 use Rattle.finite.specs.Tests.{_⇒_}
 use Rattle.finite.proofs.Tests.{and-l, and-r, and-i, or-l, or-r, or-e, imp-e, all-get, is-false}
+use Rattle.finite.proofs.Lists.{one-longer}
 use Rattle.storage_model.specs.Trace.{Step, acceptWrite, acceptBarrier, propagateWrite, propagateBarrier, commit, respond, acknowledge, sync}
 use Rattle.storage_model.specs.Relation.{related, closure}
 use Rattle.storage_model.specs.Subsystem.{State, Write, Barrier, Event, write, barrier, member, precedes, noWrite, noBarrier, address, class, events, arrived, coherent, separated, writesSeen, barriersSeen, writeIsNew, writeIsAfter, barriersWentBefore, barrierIsNew, groupAWentBefore, committed, toOneAddress, unrelated, acyclicWith, unacknowledgedSync, enabled, appended, followed, effect, initial}
 use Rattle.storage_model.specs.Fits.{StepFits}
 use Rattle.storage_model.specs.Sound.{Ordered, Listed, Syncs, Sound}
 use Rattle.storage_laws.proofs.Relations.{closure-within, closure-holds, closure-transitive, closure-least, acyclic-is}
-use Rattle.storage_laws.proofs.Lists.{one-more}
 use Rattle.storage_laws.proofs.Listed.{Grows, listed-more, listed-write, listed-barrier, lists-append}
 
 -- ---- the writes seen, with one more
 
 module _ (s s′ : State) (x : Write) (p : s′ .writes ≡ s .writes ++ (x ∷ [])) where
   seen-more : writesSeen s′ ≡ suc (writesSeen s)
-  seen-more = ap length p ∙ one-more (s .writes) x
+  seen-more = ap length p ∙ one-longer (s .writes) x
 
   old-address : (w : ℕ) → w < writesSeen s → address s′ w ≡ address s w
   unfolding address
@@ -184,7 +184,7 @@ module _ (s : State) (S : Sound s) where
 
     seen₂ : barriersSeen s₂ ≡ suc (barriersSeen s)
     unfolding s₂ effect
-    seen₂ = one-more (s .barriers) y₂
+    seen₂ = one-longer (s .barriers) y₂
 
     grows₂ : Grows s s₂
     grows₂ = grows-stays s s₂ (unfold s₂ effect in refl) (unfold s₂ effect in refl) (omega (arith, seen₂))
@@ -212,7 +212,7 @@ module _ (s : State) (S : Sound s) where
             ap (λ (i : ℕ). getD (s .barriers ++ (y₂ ∷ [])) i noBarrier .class) e
             ∙ ap (λ (z : Barrier). z .class) (getD-append-seam (s .barriers) y₂ [] noBarrier) ∙ eqb-true c sync z
         by (no l) (no d) =
-            let m = one-more (s .unacknowledged) (eqb c sync) in
+            let m = one-longer (s .unacknowledged) (eqb c sync) in
             absurd (false≢true (sym (List·getD-eq-default (s .unacknowledged ++ (eqb c sync ∷ [])) false (omega (arith, m, n))) ∙ h))
 
     sound-accept-barrier : Sound (effect s (acceptBarrier t c))
@@ -221,7 +221,7 @@ module _ (s : State) (S : Sound s) where
       lists = lists-append s s₂ t (barrier (barriersSeen s)) (unfold effect in refl) (λ u. listed-more s s₂ (events s u) grows₂ (S .lists u))
           (listed-barrier s₂ (events s t) (barriersSeen s) (listed-more s s₂ (events s t) grows₂ (S .lists t)) new-barrier (omega (arith, seen₂)));
       syncs = unfold effect unacknowledgedSync class in record {
-        as-many = one-more (s .unacknowledged) (eqb c sync) ∙ ap suc (S .syncs .as-many) ∙ sym (one-more (s .barriers) y₂);
+        as-many = one-longer (s .unacknowledged) (eqb c sync) ∙ ap suc (S .syncs .as-many) ∙ sym (one-longer (s .barriers) y₂);
         syncs = syncs₂;
       };
     }

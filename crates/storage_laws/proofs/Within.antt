@@ -1,12 +1,13 @@
 -- The state keeps the limits after every step that fits.
 -- Assumes nothing.
-use Prim.Native.Nat.{ℕ, suc, _+_, _≤_}
+use Prim.Native.Nat.{ℕ, suc, _≤_}
 use native.Mathlib.Omega.{arith}
 use mathlib.Core.Path.{_≡_, refl, _∙_}
 use mathlib.Core.Bool.{Bool}
 use mathlib.Core.List.{List, [], _∷_, _++_}
 use lib.ListN.{length, getD, length-set, length-replicate}
 use Rattle.finite.specs.Lists.{table, All}
+use Rattle.finite.proofs.Lists.{one-longer}
 use Rattle.finite.proofs.All.{all-append}
 use Rattle.model.specs.Limits.{mostThreads, mostAddresses, mostValue}
 use Rattle.storage_model.specs.Limits.{mostWrites, mostBarriers}
@@ -15,7 +16,6 @@ use Rattle.storage_model.specs.Relation.{Relation, relation, related}
 use Rattle.storage_model.specs.Subsystem.{State, Write, Barrier, Event, coherent, writesSeen, barriersSeen, committed, appended, followed, effect, initial}
 use Rattle.storage_model.specs.Fits.{StepFits}
 use Rattle.storage_model.specs.Sound.{Within, WriteWithin, BarrierWithin}
-use Rattle.storage_laws.proofs.Lists.{one-more}
 use Rattle.storage_laws.proofs.Relations.{closure-table}
 
 -- as many lists as before
@@ -44,11 +44,11 @@ kept s W ws co bs ls us lw hw hc lb hb e = record {
 pub within-step : (s : State) → Within s → (x : Step) → StepFits (s .threads) (length (s .initials)) (writesSeen s) (barriersSeen s) x → Within (effect s x)
 unfolding effect coherent followed committed
 within-step s W (acceptWrite t a v) F =
-    kept s W _ _ (s .barriers) _ _ (rw (one-more (s .writes)) (F .0))
+    kept s W _ _ (s .barriers) _ _ (rw (one-longer (s .writes)) (F .0))
     (all-append _ (s .writes) _ (W .writes) (record { thread = F .1; address = F .2; value = F .3 }, tt))
-    (rw (one-more (s .writes)) (closure-table (suc (writesSeen s)) _)) (W .few-barriers) (W .barriers) (appended-length (s .propagated) t _)
+    (rw (one-longer (s .writes)) (closure-table (suc (writesSeen s)) _)) (W .few-barriers) (W .barriers) (appended-length (s .propagated) t _)
 within-step s W (acceptBarrier t c) F =
-    kept s W (s .writes) (s .coherence) _ _ _ (W .few-writes) (W .writes) (W .coherence) (rw (one-more (s .barriers)) (F .0))
+    kept s W (s .writes) (s .coherence) _ _ _ (W .few-writes) (W .writes) (W .coherence) (rw (one-longer (s .barriers)) (F .0))
     (all-append _ (s .barriers) _ (W .barriers) (record { thread = F .1; class = F .2 }, tt)) (appended-length (s .propagated) t _)
 within-step s W (propagateWrite w t) F =
     kept s W (s .writes) (s .coherence) (s .barriers) _ _ (W .few-writes) (W .writes) (W .coherence) (W .few-barriers) (W .barriers) (appended-length (s .propagated) t _)

@@ -12,16 +12,13 @@ use lib.Bits.{bitOr}
 use lib.ListN.{getD, length, set, length-set}
 use lib.Seq.{getD-set-same, getD-set-other}
 use borrow.Author.Tests.{lt-ltb, eq-eqb, ne-eqb}
-use Rattle.finite.specs.Tests.{some}
 use Rattle.finite.specs.Lists.{table}
-use Rattle.finite.proofs.Tests.{iff, and-l, and-false, some-make}
+use Rattle.finite.proofs.Tests.{and-l, and-false, some-within}
 use Rattle.finite.proofs.Lists.{table-get, table-length}
 use Rattle.bits.specs.Bit.{bit}
 use Rattle.bits.proofs.Bits.{bit-or}
-use Rattle.model.specs.Limits.{mostThreads}
 use Rattle.model.specs.Rules.{orElse}
 use Rattle.rows.specs.Sets.{Set}
-use Rattle.rows.proofs.SetLaws.{some-out}
 use Rattle.storage_model.specs.Limits.{mostWrites, mostBarriers}
 use Rattle.storage_model.specs.Trace.{commit}
 use Rattle.storage_model.specs.Relation.{Relation, related, acyclic}
@@ -35,7 +32,7 @@ use Rattle.storage.specs.declared.Storage.{Storage as Held}
 use Rattle.storage.proofs.Events.{write-of}
 use Rattle.storage.proofs.Sets.{set-bit}
 use Rattle.storage.proofs.Stores.{before-table}
-use Rattle.storage.proofs.Means.{writes-of, writes-few, threads-few, writer-of, writer-within, address-of, events-of, coherent-of, before-size, before-past}
+use Rattle.storage.proofs.Means.{writes-of, writes-few, writer-of, writer-within, address-of, events-of, coherent-of, before-size, before-past}
 use Rattle.propagated.specs.Lists.{separatedIn}
 use Rattle.coherence.specs.Rows.{Committed}
 use Rattle.transitions.proofs.Ranges.{write-low}
@@ -101,11 +98,6 @@ rows-edge k co a b la lb =
     row b = setOf k (λ a. related co a b)
 
 -- ---- the writes that a barrier separates
-
--- a test that passes below n only, asked of m numbers
-some-within : (n m : ℕ) (p : ℕ → Bool) → n ≤ m → ((i : ℕ) → p i ≡ true → i < n) → some m p ≡ some n p
-some-within n m p l f =
-    iff (λ h. some-out m p h (λ i _ t. some-make n p i (f i t) t)) (λ h. some-out n p h (λ i li t. some-make m p i (omega (arith, l, li)) t))
 
 -- the loop of `with_separated`
 pub record Separates (c : Held) (old new : List ℕ) (i : ℕ) : Type 0 where

@@ -11,7 +11,7 @@ use lib.Bits.{bitAnd}
 use lib.ListN.{getD, length}
 use borrow.Author.Tests.{lt-ltb, le-ltb, eq-eqb, ne-eqb}
 use Rattle.finite.specs.Tests.{all, some, _⇒_}
-use Rattle.finite.proofs.Tests.{iff, and-true, and-false, or-l, or-r, imp-e, imp-i, imp-no, all-get, all-make, all-same, some-same}
+use Rattle.finite.proofs.Tests.{iff, and-true, and-false, and-comm, or-l, or-r, imp-e, imp-i, imp-no, all-get, all-make, all-same, some-same}
 use Rattle.bits.specs.Bit.{bit, width}
 use Rattle.bits.proofs.Bits.{bit-and, bit-ones}
 use Rattle.model.specs.Limits.{mostThreads, mostAddresses}
@@ -29,10 +29,6 @@ use Rattle.transitions.proofs.Ranges.{write-low}
 use Rattle.propagated.specs.Lists.{Lists, Once, latestIn, laterOf}
 use Rattle.transitions.specs.Steps.{Here, Took}
 use Rattle.transitions.specs.declared.Stepped.{Stepped}
-
-turned : (x y : Bool) → (x && y) ≡ (y && x)
-turned true y = sym (and-true y)
-turned false y = sym (and-false y)
 
 module _ (c : Held) (G : Good c) where
   -- the lists of a good struct
@@ -151,7 +147,7 @@ module _ (c : Held) (G : Good c) where
       went v =
           U .has v ∙ some-same (c .writes) _ _ (λ w lw.
           ap₂ _&&_ (here-write w H lw) (ap (λ (x : Bool). eqb v w || x) (sym (coherent-of c G v w)))
-          ∙ turned (arrived s (write w) t) (eqb v w || coherent s v w))
+          ∙ and-comm (arrived s (write w) t) (eqb v w || coherent s v w))
 
   -- ---- a read response
 

@@ -1,6 +1,6 @@
 -- `one_order::apart` meets its contract. Assumes nothing.
 use Rattle.bits.specs.Bit.{width}
-use Rattle.one_order.proofs.Sizes.{bit-apart}
+use Rattle.one_order.proofs.Disjoint.{bit-apart}
 use Rattle.one_order.proofs.apart.Statement.{statement}
 use Rattle.one_order.proofs.apart.Tie as tie
 

@@ -1,8 +1,7 @@
--- Laws of sets: a part has fewer events than the whole; when two sets have no event in common.
+-- When two sets have no event in common.
 -- Assumes nothing.
-use Prim.Native.Nat.{ℕ, zero, suc, _^_, _≤_, _<_}
+use Prim.Native.Nat.{ℕ, _^_, _≤_, _<_}
 use native.Mathlib.Omega.{arith}
-use native.Mathlib.Decide.{ℕ-discrete}
 use native.Mathlib.Nat.{lt-of-le-of-lt}
 use mathlib.Core.Path.{_≡_, refl, sym, ap, _∙_}
 use mathlib.Core.Bool.{Bool, true, false, not, _&&_, true≢false}
@@ -10,38 +9,11 @@ use lib.Bits.{bitAnd, and-le-l}
 use lib.Dec.{eqb, ltb}
 use lib.Pow.{pow-pos}
 use borrow.Author.Tests.{eqb-true, eq-eqb, ltb-true, lt-ltb, not-true}
-use Rattle.finite.specs.Tests.{all, count, tick, _⇒_}
+use Rattle.finite.specs.Tests.{all, _⇒_}
 use Rattle.finite.proofs.Tests.{iff, and-i, and-l, and-r, imp-e, imp-i, is-false, all-get, all-make}
 use Rattle.bits.specs.Bit.{bit, width}
 use Rattle.bits.proofs.Bits.{bit-zero, bit-and, bit-ext}
 use Rattle.rows.specs.Sets.{Set}
-
--- ---- how many events a part has
-
-tick-le : (x y : Bool) → (x ≡ true → y ≡ true) → tick x ≤ tick y
-tick-le true y h = rw (h refl) (omega arith)
-tick-le false y h = omega arith
-
-count-le : (n : ℕ) (p q : ℕ → Bool) → ((i : ℕ) → i < n → p i ≡ true → q i ≡ true) → count n p ≤ count n q
-unfolding count
-count-le zero p q h = omega arith
-count-le (suc n) p q h = omega (arith, count-le n p q (λ i l. h i (omega arith)), tick-le (p n) (q n) (h n (omega arith)))
-
-less-at : (n : ℕ) (p q : ℕ → Bool) (j : ℕ) → ((i : ℕ) → i < suc n → p i ≡ true → q i ≡ true) → j < suc n → q j ≡ true → p j ≡ false
-    → (j < n → count n p < count n q) → Dec (j ≡ n) → count (suc n) p < count (suc n) q
-unfolding count
-less-at n p q j h l t f below (yes e) =
-    let tp : tick (p n) ≡ 0 = ap tick (ap p (sym e) ∙ f) in
-    let tq : tick (q n) ≡ 1 = ap tick (ap q (sym e) ∙ t) in
-    omega (arith, count-le n p q (λ i l. h i (omega arith)))
-less-at n p q j h l t f below (no d) = omega (arith, below (omega arith), tick-le (p n) (q n) (h n (omega arith)))
-
--- all that pass p pass q, and j passes q alone
-pub count-less : (n : ℕ) (p q : ℕ → Bool) → ((i : ℕ) → i < n → p i ≡ true → q i ≡ true) → (j : ℕ) → j < n → q j ≡ true → p j ≡ false → count n p < count n q
-count-less zero p q h j l t f = absurd (omega arith)
-count-less (suc n) p q h j l t f = less-at n p q j h l t f (λ lj. count-less n p q (λ i l. h i (omega arith)) j lj t f) (ℕ-discrete j n)
-
--- ---- no event in common
 
 pub bit-apart : (n a b : ℕ) → a < 2 ^ n → eqb (bitAnd a b) 0 ≡ all n (λ j. bit a j ⇒ not (bit b j))
 bit-apart n a b fit =
