@@ -58,12 +58,6 @@ changed-load false f x h = absurd (true≢false (sym h))
 
 -- ---- 16
 
-pub some-between : (t x e : Bool) → x ≡ true → t ≡ true → true ≡ (t ⇒ (x || e))
-some-between t x e h g = ap₂ (λ a b. a ⇒ (b || e)) (sym g) (sym h)
-
-pub none-between : (t x e : Bool) → x ≡ false → t ≡ true → e ≡ (t ⇒ (x || e))
-none-between t x e h g = ap₂ (λ a b. a ⇒ (b || e)) (sym g) (sym h)
-
 -- of the stores of a set, those that don't come after l
 pub not-after : (k between those row : ℕ) {set : ℕ} (equal after : ℕ → ℕ → Bool) (l : ℕ) → Set set (λ s. bit those s && not (bit row s)) → ((s : ℕ) → bit row s ≡ after l s)
     → all k (λ s. bit set s ⇒ replaced k (bit between) equal after l s) ≡ all k (explained k (bit those) (bit between) equal after l)

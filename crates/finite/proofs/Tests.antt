@@ -58,6 +58,13 @@ imp-i false y f = refl
 pub imp-no : (x y : Bool) → x ≡ false → (x ⇒ y) ≡ true
 imp-no x y e = imp-i x y (λ t. absurd (true≢false (sym t ∙ e)))
 
+-- where its first test passed and its second is one of two: the first of these passes, or the second decides
+pub imp-first : (x y z : Bool) → x ≡ true → y ≡ true → true ≡ (x ⇒ (y || z))
+imp-first x y z h g = ap₂ (λ a b. a ⇒ (b || z)) (sym h) (sym g)
+
+pub imp-second : (x y z : Bool) → x ≡ true → y ≡ false → z ≡ (x ⇒ (y || z))
+imp-second x y z h g = ap₂ (λ a b. a ⇒ (b || z)) (sym h) (sym g)
+
 -- what is not true is false
 pub is-false : {x : Bool} → (x ≡ true → ⊥) → x ≡ false
 is-false {x = true} f = absurd (f refl)

@@ -19,12 +19,6 @@ use Rattle.values.specs.Parts.{explained, carried, cumulative, mustReadO
 
 -- ---- 15
 
-pub is-fresh : (j f x : Bool) → j ≡ true → f ≡ true → true ≡ (j ⇒ (f || x))
-is-fresh j f x h g = ap₂ (λ a b. a ⇒ (b || x)) (sym h) (sym g)
-
-pub not-fresh : (j f x : Bool) → j ≡ true → f ≡ false → x ≡ (j ⇒ (f || x))
-not-fresh j f x h g = ap₂ (λ a b. a ⇒ (b || x)) (sym h) (sym g)
-
 pub some-before : (k : ℕ) (f g : ℕ → Bool) → some k (λ s. f s && (ltb s k && g s)) ≡ some k (λ s. f s && g s)
 some-before k f g = some-same k (λ s. f s && (ltb s k && g s)) (λ s. f s && g s) (λ s l. ap (λ t. f s && (t && g s)) (lt-ltb s k l))
 

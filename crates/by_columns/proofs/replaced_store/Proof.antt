@@ -6,9 +6,9 @@ use mathlib.Core.Bool.{Bool, not, _&&_}
 use lib.Dec.{eqb}
 use Rattle.bits.specs.Bit.{bit}
 use Rattle.finite.specs.Tests.{some}
+use Rattle.finite.proofs.Tests.{imp-first, imp-second}
 use Rattle.rows.specs.Sets.{orderIn}
 use Rattle.rows.proofs.SetLaws.{imp-yes, set-as, share, as-set, some-set, set-same}
-use Rattle.by_columns.proofs.Laws.{some-between, none-between}
 use Rattle.by_columns.proofs.replaced_store.Statement.{statement}
 use Rattle.by_columns.proofs.replaced_store.Tie as tie
 
@@ -28,13 +28,11 @@ replaced-store-spec =
     let w = c .before .before in
     let s = w .before .before .before in
     let a = s .args in
-    some-between _ _ _
-    (sym (some-set (a .k) (set-same (w .without .ensures) (λ e. ap (λ t. t && not (eqb e (a .s))) (set-as (w .before .both .ensures) (share (as-set refl) (as-set (w .before .before .row .ensures))) .has e)))) ∙ sym (c .before .any .ensures) ∙ c .if1 .taken)
-    (s .pre .1 .1 .1 .1))
+    imp-first _ _ _ (s .pre .1 .1 .1 .1)
+    (sym (some-set (a .k) (set-same (w .without .ensures) (λ e. ap (λ t. t && not (eqb e (a .s))) (set-as (w .before .both .ensures) (share (as-set refl) (as-set (w .before .before .row .ensures))) .has e)))) ∙ sym (c .before .any .ensures) ∙ c .if1 .taken))
     (λ c.
     let w = c .before .before .before .before in
     let s = w .before .before .before in
     let a = s .args in
-    none-between _ _ _
-    (sym (some-set (a .k) (set-same (w .without .ensures) (λ e. ap (λ t. t && not (eqb e (a .s))) (set-as (w .before .both .ensures) (share (as-set refl) (as-set (w .before .before .row .ensures))) .has e)))) ∙ sym (c .before .before .before .any .ensures) ∙ c .before .before .if1 .left)
-    (s .pre .1 .1 .1 .1)))
+    imp-second _ _ _ (s .pre .1 .1 .1 .1)
+    (sym (some-set (a .k) (set-same (w .without .ensures) (λ e. ap (λ t. t && not (eqb e (a .s))) (set-as (w .before .both .ensures) (share (as-set refl) (as-set (w .before .before .row .ensures))) .has e)))) ∙ sym (c .before .before .before .any .ensures) ∙ c .before .before .if1 .left)))

@@ -6,7 +6,8 @@ use Rattle.finite.specs.Tests.{some}
 use Rattle.rows.specs.Sets.{orderIn, storeIn}
 use Rattle.bits.specs.Bit.{bit}
 use Rattle.rows.proofs.SetLaws.{imp-not, set-as, share, as-set, some-set, of-set}
-use Rattle.values.proofs.Laws.{is-fresh, not-fresh, some-before}
+use Rattle.finite.proofs.Tests.{imp-first, imp-second}
+use Rattle.values.proofs.Laws.{some-before}
 use Rattle.values.proofs.supplied_load.Statement.{statement}
 use Rattle.values.proofs.supplied_load.Tie as tie
 
@@ -23,13 +24,13 @@ supplied-load-spec =
     (λ c κs. search needs)
     (λ c.
     let s = c .before .before .before .before .args in
-    is-fresh (bit (s .judged) (s .l)) (bit (s .fresh) (s .l)) (some (s .k) (λ x. storeIn (s .stores) (s .partners .now) (s .l) x && orderIn (s .asked .now) (s .p) x (s .l))) (sym (c .before .before .before .has .ensures) ∙ c .before .before .if1 .taken) (sym (c .before .has2 .ensures) ∙ c .if2 .taken))
+    imp-first (bit (s .judged) (s .l)) (bit (s .fresh) (s .l)) (some (s .k) (λ x. storeIn (s .stores) (s .partners .now) (s .l) x && orderIn (s .asked .now) (s .p) x (s .l))) (sym (c .before .before .before .has .ensures) ∙ c .before .before .if1 .taken) (sym (c .before .has2 .ensures) ∙ c .if2 .taken))
     (λ c.
     let s = c .before .before .before .before .before .before .before .before .args in
     c .any .ensures
     ∙ some-set (s .k) (of-set (s .k) (λ x. orderIn (s .asked .now) (s .p) x (s .l)) (set-as (c .before .before .both .ensures) (share (as-set refl) (as-set refl))) (c .before .before-of .ensures))
     ∙ some-before (s .k) (storeIn (s .stores) (s .partners .now) (s .l)) (λ x. orderIn (s .asked .now) (s .p) x (s .l))
-    ∙ not-fresh (bit (s .judged) (s .l)) (bit (s .fresh) (s .l)) (some (s .k) (λ x. storeIn (s .stores) (s .partners .now) (s .l) x && orderIn (s .asked .now) (s .p) x (s .l))) (sym (c .before .before .before .before .before .before .before .has .ensures) ∙ c .before .before .before .before .before .before .if1 .taken) (sym (c .before .before .before .before .before .has2 .ensures) ∙ c .before .before .before .before .if2 .left))
+    ∙ imp-second (bit (s .judged) (s .l)) (bit (s .fresh) (s .l)) (some (s .k) (λ x. storeIn (s .stores) (s .partners .now) (s .l) x && orderIn (s .asked .now) (s .p) x (s .l))) (sym (c .before .before .before .before .before .before .before .has .ensures) ∙ c .before .before .before .before .before .before .if1 .taken) (sym (c .before .before .before .before .before .has2 .ensures) ∙ c .before .before .before .before .if2 .left))
     (λ c.
     let s = c .before .before .args in
     imp-not (bit (s .judged) (s .l)) (bit (s .fresh) (s .l) || some (s .k) (λ x. storeIn (s .stores) (s .partners .now) (s .l) x && orderIn (s .asked .now) (s .p) x (s .l))) (sym (c .before .has .ensures) ∙ c .if1 .left)))
