@@ -1,6 +1,6 @@
 -- The turns of reading the steps.
 -- Assumes nothing.
-use Prim.Native.Nat.{ℕ, zero, suc, _+_, _≤_, _<_}
+use Prim.Native.Nat.{ℕ, _+_, _≤_, _<_}
 use mathlib.Core.Path.{_≡_, refl, ap, _∙_}
 use mathlib.Core.List.{List, [], _∷_, _++_}
 use native.Mathlib.Omega.{arith}
@@ -9,8 +9,9 @@ use lib.ListN.{length, set, length-append}
 use mir.Syntax.{w64}
 use mir.Val.{Fits}
 use Rattle.finite.specs.Tests.{tick}
-use Rattle.number.specs.Reader.{Out, stop, next, Reader, onward, turns, another}
+use Rattle.number.specs.Reader.{Out, stop, next, turns}
 use Rattle.number.specs.declared.Refusal.{Refusal}
+use Rattle.number.proofs.Turns.{turns-long}
 use Rattle.storage_model.specs.Limits.{mostSteps}
 use Rattle.storage_model.specs.Trace.{Step, acceptWrite, acceptBarrier, propagateWrite, propagateBarrier, commit, respond, acknowledge, writesOf, barriersOf, writesIn, barriersIn}
 use Rattle.storage_model.specs.Layout.{step, nextStep}
@@ -149,22 +150,6 @@ module _ (s : List ℕ) (at n m total : ℕ) where
             (Listed (set ks i (v .kind)) (set fs i (v .first)) (set gs i (v .second)) (set vs i (v .value)) (w + x) (b + y))
             (λ xs c t. listed-more ks fs gs vs w b i xs (d .what) v x y t c j (d .held) ex lx ey ly)
 
--- as many are read as there are turns
-long-behind : {A : Type 0} (f : List A → ℕ → Out (List A)) (i : ℕ) (before : List A) (xs : List A) (p : ℕ)
-    → ((b : List A) (q : ℕ) → f b q ≡ next xs p → length xs ≡ length b + i)
-    → (o : Out A) → onward f (onward (λ a q. next (before ++ (a ∷ [])) q) o) ≡ next xs p → length xs ≡ length before + suc i
-long-behind f i before xs p h (stop x q) e = let z : _≡_ {A = ℕ} 0 1 = cc in absurd (omega arith)
-long-behind f i before xs p h (next a q) e = omega (arith, h (before ++ (a ∷ [])) q e, length-append before (a ∷ []))
-
-turns-long : {A : Type 0} (r : List A → Reader A) (s : List ℕ) (i : ℕ) (before : List A) (at : ℕ) (xs : List A) (p : ℕ)
-    → turns i (λ as′. another (r as′) as′) before s at ≡ next xs p → length xs ≡ length before + i
-unfolding turns
-turns-long {A} r s zero before at xs p e =
-    let same : _≡_ {A = List A} before xs = cc in
-    let size : length before ≡ length xs = ap length same in
-    omega arith
-turns-long r s (suc i) before at xs p e =
-    long-behind (λ b q. turns i (λ as′. another (r as′) as′) b s q) i before xs p (λ b q. turns-long r s i b q xs p) (r before s at) e
-
+-- as many steps are read as there are turns
 pub steps-long : (s : List ℕ) (n m i at : ℕ) (xs : List Step) (p : ℕ) → turns i (nextStep n m) [] s at ≡ next xs p → length xs ≡ i
 steps-long s n m i at xs p e = omega (arith, turns-long (λ before. step n m (writesIn before) (barriersIn before)) s i [] at xs p e)
