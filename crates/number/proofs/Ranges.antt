@@ -1,4 +1,4 @@
--- A number below a bound, read by either reader.
+-- The two readers of a number below a bound agree.
 -- Assumes nothing.
 use Prim.Native.Nat.{ℕ, _+_, _-_, _≤_, _<_}
 use native.Mathlib.Omega.{arith}

@@ -7,7 +7,6 @@ use native.Mathlib.Omega.{arith}
 use native.Mathlib.Nat.{mul-le-mul}
 use lib.Bits.{bitOr}
 use lib.ListN.{length, getD, set, replicate, length-set, length-replicate, replicate-append-replicate}
-use lib.Seq.{set-append-left}
 use borrow.Author.Tests.{le-leb, lt-leb}
 use mir.Syntax.{w64, w32}
 use mir.Val.{Fits}
@@ -21,7 +20,7 @@ use Rattle.number.proofs.Turns.{turns-none, turns-stop, turns-next}
 use Rattle.model.specs.Limits.{mostEvents}
 use Rattle.model.specs.Record.{Pair, Rows, pair, risingPair, nextPair, order}
 use Rattle.case.specs.Held.{pad}
-use Rattle.case.proofs.Pad.{pad-get}
+use Rattle.case.proofs.Pad.{pad-get, pad-put}
 use Rattle.reader.specs.Answers.{Stores, Padded, pairs, Ran, inRow, pairOut}
 use Rattle.reader.specs.declared.PairRead.{PairRead}
 use Rattle.reader.specs.declared.PairRead.the-variants as the
@@ -117,10 +116,6 @@ unfolding pad
 zeros n k h =
     let z : k + (n - k) ≡ n = omega arith in
     simp (length-replicate, replicate-append-replicate, z)
-
-pad-put : (n : ℕ) (xs : List ℕ) (a v : ℕ) → a < length xs → set (pad n xs) a v ≡ pad n (set xs a v)
-unfolding pad
-pad-put n xs a v h = simp (set-append-left, length-set)
 
 module _ (s : List ℕ) (at k : ℕ) (r₁ : NumberRead) (e₁ : r₁ ≡ readNumber s at (k * k)) where
   pub no-count : (f : Refusal) (x p : ℕ) (array : List ℕ) → r₁ ≡ Refused x p → f ≡ refusalOf r₁ → Stores (Padded mostEvents array) (order k s at) (place.Refused f)

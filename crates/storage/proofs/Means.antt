@@ -23,12 +23,12 @@ use Rattle.storage_model.specs.Sound.{Sound, Within, WriteWithin, BarrierWithin
 use Rattle.storage_laws.proofs.Relations.{related-in}
 use Rattle.storage_laws.proofs.Short.{lists-short}
 use Rattle.case.specs.Held.{pad, rowsOf}
-use Rattle.case.proofs.Pad.{length-pad, pad-get}
+use Rattle.case.proofs.Pad.{length-pad, pad-get, pad-past, field-past, rows-length}
 use Rattle.storage.specs.Held.{entryOf, listAt, edgeIn, relationIn, setOf, stateOf, held, Good}
 use Rattle.storage.specs.declared.Storage.{Storage as Held}
 use Rattle.storage.proofs.Events.{entry-low}
 use Rattle.storage.proofs.Sets.{set-bit}
-use Rattle.storage.proofs.Stores.{pad-past, field-past, rows-length, entries-short}
+use Rattle.storage.proofs.Stores.{entries-short}
 use Rattle.storage.proofs.Entries.{all-members, everywhere}
 
 -- the lists of a state are short

@@ -1,6 +1,6 @@
 -- The arrays after a step's stores.
 -- Assumes nothing.
-use Prim.Native.Nat.{ℕ, zero, suc, _+_, _-_, _*_, _≤_, _<_}
+use Prim.Native.Nat.{ℕ, zero, suc, _+_, _*_, _≤_, _<_}
 use native.Mathlib.Nat.{zero-add, zero-mul, suc-add, not-suc-le-zero, le-of-suc-le-suc}
 use native.Mathlib.Omega.{arith}
 use native.Mathlib.Decide.{decLt}
@@ -8,55 +8,18 @@ use mathlib.Core.Path.{_≡_, refl, sym, ap, ap₂, _∙_}
 use mathlib.Core.Bool.{Bool, false, _&&_}
 use mathlib.Core.List.{List, [], _∷_, _++_, map}
 use lib.Dec.{ltb}
-use lib.ListN.{length, getD, set, replicate, length-append, length-set, length-map, List·getD-map}
-use lib.Seq.{set-append-left, ext-getD, getD-append-add}
-use Rattle.finite.specs.Tests.{tick}
+use lib.ListN.{length, getD, set, length-append, length-map, List·getD-map}
+use lib.Seq.{set-append-left, ext-getD}
 use Rattle.finite.specs.Lists.{table}
 use Rattle.finite.proofs.Lists.{table-get, table-length, table-same, table-snoc}
 use Rattle.bits.specs.Bit.{bit}
 use Rattle.model.specs.Limits.{mostThreads}
-use Rattle.storage_model.specs.Limits.{mostWrites, mostBarriers, mostListed}
+use Rattle.storage_model.specs.Limits.{mostWrites, mostListed}
 use Rattle.storage_model.specs.Subsystem.{Event, appended}
 use Rattle.case.specs.Held.{pad, rowsOf}
-use Rattle.case.proofs.Pad.{length-pad, pad-get, pad-set, map-snoc}
+use Rattle.case.proofs.Pad.{length-pad, pad-get, pad-set, pad-put, pad-past, map-snoc, map-set, field-put, rows-length}
 use Rattle.storage.specs.Held.{edgeIn, entryOf, setOf}
 use Rattle.storage.proofs.Sets.{set-bits, set-same, set-more}
-
--- ---- a list with zeros behind it
-
--- an element of the list is stored
-pub pad-put : (n : ℕ) (xs : List ℕ) (i v : ℕ) → i < length xs → set (pad n xs) i v ≡ pad n (set xs i v)
-unfolding pad
-pad-put n xs i v h = rw (set-append-left xs (replicate (n - length xs) 0) i v h, length-set xs i v)
-
--- nothing but zeros stands behind the list
-pub pad-past : (n : ℕ) (xs : List ℕ) (i : ℕ) → length xs ≤ i → getD (pad n xs) i 0 ≡ 0
-unfolding pad
-pad-past n xs i h =
-    let e : i ≡ length xs + (i - length xs) = omega arith in
-    ap (λ (j : ℕ). getD (pad n xs) j 0) e ∙ getD-append-add xs (replicate (n - length xs) 0) (i - length xs) 0 ∙ zeros (n - length xs) (i - length xs)
-  where
-    zeros : (n i : ℕ) → getD {A = ℕ} (replicate n 0) i 0 ≡ 0
-    zeros zero i = refl
-    zeros (suc n) zero = refl
-    zeros (suc n) (suc i) = zeros n i
-
-map-set : {A B : Type 0} (f : A → B) (as′ : List A) (i : ℕ) (a : A) → map f (set as′ i a) ≡ set (map f as′) i (f a)
-map-set f [] i a = refl
-map-set f (x ∷ as′) zero a = refl
-map-set {B = B} f (x ∷ as′) (suc i) a = ap (λ (l : List B). f x ∷ l) (map-set f as′ i a)
-
--- what a field's array holds when an element was stored
-pub field-put : {A : Type 0} (f : A → ℕ) (n : ℕ) (as′ : List A) (i : ℕ) (a : A) → i < length as′ → set (pad n (map f as′)) i (f a) ≡ pad n (map f (set as′ i a))
-field-put f n as′ i a h = pad-put n (map f as′) i (f a) (rw (length-map as′ f) h) ∙ ap (pad n) (sym (map-set f as′ i a))
-
--- and past its last
-pub field-past : {A : Type 0} (f : A → ℕ) (n : ℕ) (as′ : List A) (i : ℕ) → length as′ ≤ i → getD (pad n (map f as′)) i 0 ≡ 0
-field-past f n as′ i h = pad-past n (map f as′) i (rw (length-map as′ f) h)
-
--- the mark of a sync that is acknowledged
-pub mark-cleared : (marks : List Bool) (b : ℕ) → b < length marks → set (pad mostBarriers (map tick marks)) b 0 ≡ pad mostBarriers (map tick (set marks b false))
-mark-cleared marks b h = field-put tick mostBarriers marks b false h
 
 -- ---- a thread's list with one event more
 
@@ -69,15 +32,6 @@ listed-append ls t e h =
 set-behind : (xs ys : List ℕ) (j v : ℕ) → set (xs ++ ys) (length xs + j) v ≡ xs ++ set ys j v
 set-behind [] ys j v = ap (λ (i : ℕ). set ys i v) (zero-add j)
 set-behind (x ∷ xs) ys j v = ap (λ (i : ℕ). set (x ∷ (xs ++ ys)) i v) (suc-add (length xs) j) ∙ ap (λ (l : List ℕ). x ∷ l) (set-behind xs ys j v)
-
--- as many places as n for each list
-pub rows-length : (n : ℕ) (rs : List (List ℕ)) → ((y : ℕ) → y < length rs → length (getD rs y []) ≤ n) → length (rowsOf n rs) ≡ length rs * n
-unfolding rowsOf
-rows-length n [] b = sym (zero-mul n)
-rows-length n (r ∷ rs) b =
-    let m = length-pad n r (b 0 (omega arith)) in
-    let e = rows-length n rs (λ y l. b (suc y) (omega arith)) in
-    length-append (pad n r) (rowsOf n rs) ∙ rw (m, e) (omega arith)
 
 -- what is stored behind row t is the row's next
 rows-set : (n : ℕ) (rs : List (List ℕ)) (t v : ℕ) → t < length rs → ((y : ℕ) → y < length rs → length (getD rs y []) ≤ n) → length (getD rs t []) < n

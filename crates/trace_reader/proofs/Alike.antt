@@ -4,8 +4,8 @@ use Prim.Native.Nat.{ℕ, zero, suc, _≤_}
 use mathlib.Core.Path.{_≡_, refl}
 use native.Mathlib.Omega.{arith}
 use Rattle.number.specs.Reader.{upTo, below, under}
-use Rattle.storage_model.specs.Trace.{lwsync}
 use Rattle.number.proofs.Ranges.{below-under}
+use Rattle.storage_model.specs.Trace.{lwsync}
 use Rattle.storage_model.specs.Limits.{mostKind}
 use Rattle.storage_model.specs.Layout.{acceptWriteFields, acceptBarrierFields, propagateWriteFields, propagateBarrierFields, commitFields, respondFields, acknowledgeFields, fields}
 use Rattle.trace_reader.specs.Held.{stepOf}

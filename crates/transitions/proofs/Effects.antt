@@ -15,11 +15,11 @@ use Rattle.storage_model.specs.Trace.{acceptWrite, acceptBarrier, acknowledge, 
 use Rattle.storage_model.specs.Relation.{related}
 use Rattle.storage_model.specs.Subsystem.{State, Write, Barrier, Event, write, barrier, events, coherent, writesSeen, barriersSeen, appended, followed, effect}
 use Rattle.case.specs.Held.{pad, rowsOf}
-use Rattle.case.proofs.Pad.{pad-next}
+use Rattle.case.proofs.Pad.{pad-next, field-put}
 use Rattle.storage.specs.Held.{stateOf, held, eventOf, entryOf, setOf, Good}
 use Rattle.storage.specs.declared.Storage.{Storage as Held}
 use Rattle.storage.proofs.Events.{write-of, barrier-of, entry-back}
-use Rattle.storage.proofs.Stores.{field-put, listed-append, events-append, before-more}
+use Rattle.storage.proofs.Stores.{listed-append, events-append, before-more}
 use Rattle.storage.proofs.Means.{writes-of, barriers-of, lists-of, marks-of, events-of, list-length, list-short, listed-is, events-is, unacknowledged-is}
 use Rattle.transitions.specs.Steps.{withEvent, NewRow}
 use Rattle.transitions.proofs.Followed.{followed-last, followed-kept}
