@@ -1,21 +1,21 @@
 -- A record is bytes, and not longer than the limits allow.
 -- Assumes nothing.
-use Prim.Native.Nat.{ℕ, zero, suc, _+_, _-_, _*_, _/_, _%_, _≤_, _<_}
+use Prim.Native.Nat.{ℕ, zero, suc, _+_, _-_, _*_, _≤_, _<_}
 use native.Mathlib.Nat.{mul-le-mul, mul-le-mul-right, zero-mul, suc-mul, add-mul, one-mul, le-refl, le-trans}
 use native.Mathlib.Decide.{decLt}
 use native.Mathlib.Omega.{arith}
-use mathlib.Core.Path.{_≡_, refl, sym, ap, _∙_}
+use mathlib.Core.Path.{_≡_, refl, ap, _∙_}
 use mathlib.Core.Bool.{Bool, true, false, not, cond, _&&_, _||_}
 use mathlib.Core.List.{List, [], _∷_, _++_, append-assoc}
 use lib.Dec.{eqb, leb, ltb}
-use lib.ListN.{length, getD, length-append}
-use borrow.Author.Tests.{leb-true, ltb-true, ltb-false, eqb-true, ne-eqb}
+use lib.ListN.{length, getD}
+use borrow.Author.Tests.{leb-true, eqb-true, ne-eqb}
 use Rattle.finite.specs.Tests.{count, tick}
 use Rattle.finite.specs.Lists.{each, All}
 use Rattle.finite.proofs.Tests.{and-l, and-r, count-mono}
-use Rattle.finite.proofs.All.{all-map, all-append}
+use Rattle.finite.proofs.All.{all-map}
 use Rattle.number.specs.Number.{encodeBy, encode, Bytes}
-use Rattle.number.proofs.Sizes.{size-mono}
+use Rattle.codec.proofs.Few.{Few, _then_, few-up-to, few-each}
 use Rattle.model.specs.Limits.{mostEdition, second, mostThreads, mostAddresses, mostEvents, mostDependencies, mostValue, mostName}
 use Rattle.model.specs.Case.{Case, Event, Dependency, noEvent, load, store, mostKind, bare, byAddress, mostClass}
 use Rattle.model.specs.Record.{Pair, dependencyGood, dependencyRank, leastAfter, storeTo}
@@ -28,43 +28,7 @@ use Rattle.laws.proofs.Names.{printable-bytes}
 use Rattle.laws.proofs.Parts.{kinds-most}
 use Rattle.laws.proofs.ReadOrder.{Rising, rising-rows, few-pairs}
 
--- ---- a number
-
-bytes-by : (g v : ℕ) → v ≤ g → Bytes (encodeBy g v)
-unfolding encodeBy
-bytes-by zero v h = (omega arith, tt)
-bytes-by (suc g) v h = go (ltb v 128) refl (bytes-by g (v / 128))
-  where
-    go : (x : Bool) → ltb v 128 ≡ x → (v / 128 ≤ g → Bytes (encodeBy g (v / 128))) → Bytes (cond x (v ∷ []) ((128 + v % 128) ∷ encodeBy g (v / 128)))
-    go true p ih = (omega (arith, ltb-true v 128 p), tt)
-    go false p ih = (omega arith, ih (omega (arith, ltb-false v 128 p)))
-
-pub encode-bytes : (v : ℕ) → Bytes (encode v)
-unfolding encode
-encode-bytes v = bytes-by v v (le-refl v)
-
 -- ---- field by field
-
--- bytes, at most n of them
-record Few (bs : List ℕ) (n : ℕ) : Type 0 where
-  most : length bs ≤ n
-  bytes : Bytes bs
-
-infixr 20 _then_
-_then_ : {as′ bs : List ℕ} {x y : ℕ} → Few as′ x → Few bs y → Few (as′ ++ bs) (x + y)
-_then_ {as′} {bs} p q = record { most = rw length-append (omega (arith, p .most, q .most)); bytes = all-append _ as′ bs (p .bytes) (q .bytes) }
-
-few-up-to : (v w : ℕ) → v ≤ w → Few (encode v) (size w)
-few-up-to v w h = record { most = size-mono v w h; bytes = encode-bytes v }
-
-few-each : {A : Type 0} (enc : A → List ℕ) (b : ℕ) (xs : List A) → All (λ x. Few (enc x) b) xs → (n : ℕ) → length xs ≤ n → Few (each enc xs) (n * b)
-unfolding each
-few-each enc b [] h n l = record { most = omega arith; bytes = tt }
-few-each enc b (x ∷ xs) h n l =
-    let rest : Few (each enc xs) ((n - 1) * b) = few-each enc b xs (h .1) (n - 1) (omega arith) in
-    let n′ : suc (n - 1) ≡ n = omega arith in
-    let whole : n * b ≡ (n - 1) * b + b = ap (λ (z : ℕ). z * b) (sym n′) ∙ suc-mul (n - 1) b in
-    record { most = rw length-append (omega (arith, h .0 .most, rest .most)); bytes = all-append _ (enc x) (each enc xs) (h .0 .bytes) (rest .bytes) }
 
 few-event : (edition n m : ℕ) (e : Event) → n ≤ mostThreads → m ≤ mostAddresses → EventFits edition n m e → Few (eventBytes e) mostEventBytes
 unfolding eventBytes mostEventBytes

@@ -1,87 +1,65 @@
 -- A trace is bytes, and not longer than the limits allow; that many are reached.
 -- Assumes nothing.
-use Prim.Native.Nat.{ℕ, zero, suc, _+_, _-_, _*_, _≤_, _<_}
-use native.Mathlib.Nat.{suc-mul, le-refl}
+use Prim.Native.Nat.{ℕ, zero, suc, _-_, _≤_}
+use native.Mathlib.Nat.{le-refl}
 use native.Mathlib.Omega.{arith}
 use mathlib.Core.Path.{_≡_, refl, sym}
 use mathlib.Core.List.{List, [], _∷_, _++_}
 use lib.Dec.{lit<, lit≤}
-use lib.ListN.{length, length-append}
+use lib.ListN.{length}
 use Rattle.finite.specs.Lists.{table, each, All}
 use Rattle.finite.proofs.Lists.{table-length}
-use Rattle.finite.proofs.All.{all-map, all-append, all-table}
+use Rattle.finite.proofs.All.{all-map, all-table}
 use Rattle.number.specs.Number.{encodeBy, encode, size, Bytes}
-use Rattle.number.proofs.Sizes.{size-mono}
 use Rattle.model.specs.Limits.{mostThreads, mostAddresses, mostValue}
-use Rattle.laws.proofs.Bound.{encode-bytes}
+use Rattle.codec.proofs.Few.{Few, _then_, few-up-to, few-wider, few-each}
 use Rattle.storage_model.specs.Limits.{mostKind, mostSteps, mostWrites, mostBarriers}
 use Rattle.storage_model.specs.Trace.{Trace, Step, acceptWrite, acceptBarrier, propagateWrite, propagateBarrier, commit, respond, acknowledge, lwsync, writesIn, barriersIn}
 use Rattle.storage_model.specs.Written.{stepBytes, traceBytes}
 use Rattle.storage_model.specs.Bound.{mostStepBytes, mostTraceBytes}
 use Rattle.storage_model.specs.Fits.{StepFits, StepsFit, Fits}
-use Rattle.storage_laws.proofs.Counts.{Few, few-none, few-grown}
-
--- bytes, at most n of them
-record AtMost (bs : List ℕ) (n : ℕ) : Type 0 where
-  most : length bs ≤ n
-  bytes : Bytes bs
-
-infixr 20 _then_
-_then_ : {as′ bs : List ℕ} {x y : ℕ} → AtMost as′ x → AtMost bs y → AtMost (as′ ++ bs) (x + y)
-_then_ {as′} {bs} p q = record { most = rw length-append (omega (arith, p .most, q .most)); bytes = all-append _ as′ bs (p .bytes) (q .bytes) }
-
-up-to : (v w : ℕ) → v ≤ w → AtMost (encode v) (size w)
-up-to v w h = record { most = size-mono v w h; bytes = encode-bytes v }
-
-wider : {bs : List ℕ} {x : ℕ} (y : ℕ) → AtMost bs x → x ≤ y → AtMost bs y
-wider y p l = record { most = omega (arith, p .most); bytes = p .bytes }
-
-each-at-most : {A : Type 0} (enc : A → List ℕ) (b : ℕ) (xs : List A) → All (λ x. AtMost (enc x) b) xs → (n : ℕ) → length xs ≤ n → AtMost (each enc xs) (n * b)
-unfolding each
-each-at-most enc b [] h n l = record { most = omega arith; bytes = tt }
-each-at-most enc b (x ∷ xs) h zero l = absurd (omega arith)
-each-at-most enc b (x ∷ xs) h (suc n) l = wider _ (h .0 then each-at-most enc b xs (h .1) n (omega arith)) (omega (arith, suc-mul n b))
+use Rattle.storage_laws.proofs.Counts.{FewEvents, few-none, few-grown}
 
 module _ (n m : ℕ) (hn : n ≤ mostThreads) (hm : m ≤ mostAddresses) where
-  at-most-step : (w b : ℕ) → w ≤ mostWrites → b ≤ mostBarriers → (x : Step) → StepFits n m w b x → AtMost (stepBytes x) mostStepBytes
+  few-step : (w b : ℕ) → w ≤ mostWrites → b ≤ mostBarriers → (x : Step) → StepFits n m w b x → Few (stepBytes x) mostStepBytes
   unfolding stepBytes mostStepBytes encode encodeBy
-  at-most-step w b hw hb (acceptWrite t a v) F =
-      up-to 1 mostKind (lit≤ tt) then up-to t (mostThreads - 1) (omega (arith, F .1)) then up-to a (mostAddresses - 1) (omega (arith, F .2)) then up-to v mostValue (F .3)
-  at-most-step w b hw hb (acceptBarrier t c) F =
-      wider _ (up-to 2 mostKind (lit≤ tt) then up-to t (mostThreads - 1) (omega (arith, F .1)) then up-to c lwsync (F .2)) (lit≤ tt)
-  at-most-step w b hw hb (propagateWrite x t) F =
-      wider _ (up-to 3 mostKind (lit≤ tt) then up-to x mostWrites (omega (arith, F .0)) then up-to t (mostThreads - 1) (omega (arith, F .1))) (lit≤ tt)
-  at-most-step w b hw hb (propagateBarrier x t) F =
-      wider _ (up-to 4 mostKind (lit≤ tt) then up-to x mostBarriers (omega (arith, F .0)) then up-to t (mostThreads - 1) (omega (arith, F .1))) (lit≤ tt)
-  at-most-step w b hw hb (commit x y) F =
-      wider _ (up-to 5 mostKind (lit≤ tt) then up-to x mostWrites (omega (arith, F .0)) then up-to y mostWrites (omega (arith, F .1))) (lit≤ tt)
-  at-most-step w b hw hb (respond t a v) F =
-      up-to 6 mostKind (lit≤ tt) then up-to t (mostThreads - 1) (omega (arith, F .0)) then up-to a (mostAddresses - 1) (omega (arith, F .1)) then up-to v mostValue (F .2)
-  at-most-step w b hw hb (acknowledge x) F = wider _ (up-to 7 mostKind (lit≤ tt) then up-to x mostBarriers (omega (arith, F))) (lit≤ tt)
+  few-step w b hw hb (acceptWrite t a v) F =
+      few-up-to 1 mostKind (lit≤ tt) then few-up-to t (mostThreads - 1) (omega (arith, F .1)) then few-up-to a (mostAddresses - 1) (omega (arith, F .2)) then few-up-to v mostValue (F .3)
+  few-step w b hw hb (acceptBarrier t c) F =
+      few-wider _ (few-up-to 2 mostKind (lit≤ tt) then few-up-to t (mostThreads - 1) (omega (arith, F .1)) then few-up-to c lwsync (F .2)) (lit≤ tt)
+  few-step w b hw hb (propagateWrite x t) F =
+      few-wider _ (few-up-to 3 mostKind (lit≤ tt) then few-up-to x mostWrites (omega (arith, F .0)) then few-up-to t (mostThreads - 1) (omega (arith, F .1))) (lit≤ tt)
+  few-step w b hw hb (propagateBarrier x t) F =
+      few-wider _ (few-up-to 4 mostKind (lit≤ tt) then few-up-to x mostBarriers (omega (arith, F .0)) then few-up-to t (mostThreads - 1) (omega (arith, F .1))) (lit≤ tt)
+  few-step w b hw hb (commit x y) F =
+      few-wider _ (few-up-to 5 mostKind (lit≤ tt) then few-up-to x mostWrites (omega (arith, F .0)) then few-up-to y mostWrites (omega (arith, F .1))) (lit≤ tt)
+  few-step w b hw hb (respond t a v) F =
+      few-up-to 6 mostKind (lit≤ tt) then few-up-to t (mostThreads - 1) (omega (arith, F .0)) then few-up-to a (mostAddresses - 1) (omega (arith, F .1)) then few-up-to v mostValue (F .2)
+  few-step w b hw hb (acknowledge x) F = few-wider _ (few-up-to 7 mostKind (lit≤ tt) then few-up-to x mostBarriers (omega (arith, F))) (lit≤ tt)
 
-  at-most-steps : (before xs : List Step) → Few (writesIn before) (barriersIn before) → StepsFit n m before xs → All (λ x. AtMost (stepBytes x) mostStepBytes) xs
-  at-most-steps before [] l F = tt
-  at-most-steps before (x ∷ xs) l F = (
-    at-most-step (writesIn before) (barriersIn before) (l .0) (l .1) x (F .0),
-    at-most-steps (before ++ (x ∷ [])) xs (few-grown n m before x (F .0) l) (F .1),
+  few-steps : (before xs : List Step) → FewEvents (writesIn before) (barriersIn before) → StepsFit n m before xs → All (λ x. Few (stepBytes x) mostStepBytes) xs
+  few-steps before [] l F = tt
+  few-steps before (x ∷ xs) l F = (
+    few-step (writesIn before) (barriersIn before) (l .0) (l .1) x (F .0),
+    few-steps (before ++ (x ∷ [])) xs (few-grown n m before x (F .0) l) (F .1),
   )
 
-at-most-trace : (t : Trace) → Fits t → AtMost (traceBytes t) mostTraceBytes
+few-trace : (t : Trace) → Fits t → Few (traceBytes t) mostTraceBytes
 unfolding traceBytes mostTraceBytes
-at-most-trace t F =
-    up-to (t .n) mostThreads (F .n-most) then up-to (t .m) mostAddresses (F .m-most)
-    then each-at-most encode (size mostValue) (t .initials) (all-map _ _ (λ v l. up-to v mostValue l) (t .initials) (F .initials)) mostAddresses (rw (← F .m) (F .m-most))
-    then up-to (length (t .steps)) mostSteps (F .steps-most)
-    then each-at-most stepBytes mostStepBytes (t .steps)
-    (at-most-steps (t .n) (t .m) (F .n-most) (F .m-most) [] (t .steps) few-none (F .steps)) mostSteps (F .steps-most)
+few-trace t F =
+    few-up-to (t .n) mostThreads (F .n-most) then few-up-to (t .m) mostAddresses (F .m-most)
+    then few-each encode (size mostValue) (t .initials) (all-map _ _ (λ v l. few-up-to v mostValue l) (t .initials) (F .initials)) mostAddresses (rw (← F .m) (F .m-most))
+    then few-up-to (length (t .steps)) mostSteps (F .steps-most)
+    then few-each stepBytes mostStepBytes (t .steps)
+    (few-steps (t .n) (t .m) (F .n-most) (F .m-most) [] (t .steps) few-none (F .steps)) mostSteps (F .steps-most)
 
 -- a trace takes at most so many bytes
 pub trace-most : (t : Trace) → Fits t → length (traceBytes t) ≤ mostTraceBytes
-trace-most t F = at-most-trace t F .most
+trace-most t F = few-trace t F .most
 
 -- each of them is a byte
 pub bytes-of-trace : (t : Trace) → Fits t → Bytes (traceBytes t)
-bytes-of-trace t F = at-most-trace t F .bytes
+bytes-of-trace t F = few-trace t F .bytes
 
 -- with the limits as they are
 pub most-is : mostTraceBytes ≡ 1048

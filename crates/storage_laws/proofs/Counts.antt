@@ -35,10 +35,10 @@ seen-step s (respond t a v) = omega arith
 seen-step s (acknowledge b) = omega arith
 
 -- no more writes and barriers than there may be
-abbrev pub Few : (w b : ℕ) → Type 0
-Few w b = (w ≤ mostWrites) × (b ≤ mostBarriers)
+abbrev pub FewEvents : (w b : ℕ) → Type 0
+FewEvents w b = (w ≤ mostWrites) × (b ≤ mostBarriers)
 
-few-more : (n m w b : ℕ) (x : Step) → StepFits n m w b x → Few w b → Few (w + writesOf x) (b + barriersOf x)
+few-more : (n m w b : ℕ) (x : Step) → StepFits n m w b x → FewEvents w b → FewEvents (w + writesOf x) (b + barriersOf x)
 few-more n m w b (acceptWrite t a v) F l = omega (arith, F .0, l)
 few-more n m w b (acceptBarrier t c) F l = omega (arith, F .0, l)
 few-more n m w b (propagateWrite x t) F l = omega (arith, l)
@@ -48,11 +48,11 @@ few-more n m w b (respond t a v) F l = omega (arith, l)
 few-more n m w b (acknowledge x) F l = omega (arith, l)
 
 -- behind a step that fits, too
-pub few-grown : (n m : ℕ) (before : List Step) (x : Step) → StepFits n m (writesIn before) (barriersIn before) x → Few (writesIn before) (barriersIn before)
-    → Few (writesIn (before ++ (x ∷ []))) (barriersIn (before ++ (x ∷ [])))
+pub few-grown : (n m : ℕ) (before : List Step) (x : Step) → StepFits n m (writesIn before) (barriersIn before) x → FewEvents (writesIn before) (barriersIn before)
+    → FewEvents (writesIn (before ++ (x ∷ []))) (barriersIn (before ++ (x ∷ [])))
 few-grown n m before x F l = rw (writes-grown before x, barriers-grown before x) (few-more n m (writesIn before) (barriersIn before) x F l)
 
 -- before the first step
-pub few-none : Few (writesIn []) (barriersIn [])
+pub few-none : FewEvents (writesIn []) (barriersIn [])
 unfolding writesIn barriersIn
 few-none = omega arith

@@ -1,6 +1,6 @@
 -- What is written of a trace is read back.
 -- Assumes nothing.
-use Prim.Native.Nat.{ℕ, _+_, _≤_, _<_, _^_}
+use Prim.Native.Nat.{ℕ, _≤_, _<_, _^_}
 use native.Mathlib.Nat.{zero-add}
 use native.Mathlib.Omega.{arith}
 use mathlib.Core.Path.{_≡_, refl, ap, _∙_}
@@ -20,7 +20,7 @@ use Rattle.storage_model.specs.Trace.{Trace, Step, acceptWrite, acceptBarrier, 
 use Rattle.storage_model.specs.Layout.{acceptWriteFields, acceptBarrierFields, propagateWriteFields, propagateBarrierFields, commitFields, respondFields, acknowledgeFields, fields, roomFor, step, trace, readTrace}
 use Rattle.storage_model.specs.Written.{stepBytes, traceBytes}
 use Rattle.storage_model.specs.Fits.{StepFits, StepsFit, Fits}
-use Rattle.storage_laws.proofs.Counts.{Few, few-none, few-grown}
+use Rattle.storage_laws.proofs.Counts.{FewEvents, few-none, few-grown}
 
 -- counts of writes and barriers that a number can say
 module _ (n m w b : ℕ) (hn : n ≤ 128 ^ groups) (hm : m ≤ 128 ^ groups) (hw : w < 128 ^ groups) (hb : b < 128 ^ groups) where
@@ -49,7 +49,7 @@ module _ (n m w b : ℕ) (hn : n ≤ 128 ^ groups) (hm : m ≤ 128 ^ groups) (hw
       (reads-bind _ (reads-below n t (F .0) hn) (reads-bind _ (reads-below m a (F .1) hm) (reads-last _ (reads-up-to mostValue v (F .2) (lit< tt)))))
   reads-step (acknowledge x) F = of-kind 7 _ _ (lit≤ tt) (lit≤ tt) refl (reads-last _ (reads-under b x F hb))
 
-steps-read : (n m : ℕ) → n ≤ 128 ^ groups → m ≤ 128 ^ groups → (before xs : List Step) → Few (writesIn before) (barriersIn before)
+steps-read : (n m : ℕ) → n ≤ 128 ^ groups → m ≤ 128 ^ groups → (before xs : List Step) → FewEvents (writesIn before) (barriersIn before)
     → StepsFit n m before xs → Steps (λ z. step n m (writesIn z) (barriersIn z)) stepBytes before xs
 steps-read n m hn hm before [] l F = tt
 steps-read n m hn hm before (x ∷ xs) l F = (
