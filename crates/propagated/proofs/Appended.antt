@@ -5,31 +5,16 @@ use mathlib.Core.Path.{_≡_, refl, sym, ap, ap₂, _∙_}
 use mathlib.Core.Bool.{Bool, true, false, _&&_, _||_, true≢false}
 use mathlib.Core.List.{List, [], _∷_, _++_}
 use Rattle.finite.specs.Tests.{some}
-use Rattle.finite.proofs.Tests.{and-l, and-r, or-l, or-r, or-e, some-same, some-or, some-and, and-true, and-false}
+use Rattle.finite.proofs.Tests.{some-same, some-or, some-and, and-true, and-false}
 use Rattle.storage_model.specs.Limits.{mostBarriers}
 use Rattle.storage_model.specs.Subsystem.{Event, barrier, same, member, precedes}
 use Rattle.storage_laws.proofs.Lists.{same-is, precedes-append}
+use Rattle.storage_laws.proofs.Listed.{precedes-members}
 use Rattle.propagated.specs.Lists.{separatedIn, laterOf, latestIn}
 
 -- a barrier stands behind e
 abbrev pub fencedIn : List Event → Event → Bool
 fencedIn l e = some mostBarriers (λ z. precedes e (barrier z) l)
-
--- what stands before an event stands in the list
-before-in : (e f : Event) (l : List Event) → precedes e f l ≡ true → member e l ≡ true
-unfolding precedes member
-before-in e f [] h = h
-before-in e f (x ∷ l) h =
-    or-e (same e x && member f l) (precedes e f l)
-    (λ t. or-l (same e x) (member e l) (and-l (same e x) (member f l) t)) (λ t. or-r (same e x) (member e l) (before-in e f l t)) h
-
--- what stands behind an event does too
-behind-in : (e f : Event) (l : List Event) → precedes e f l ≡ true → member f l ≡ true
-unfolding precedes member
-behind-in e f [] h = h
-behind-in e f (x ∷ l) h =
-    or-r (same f x) (member f l)
-    (or-e (same e x && member f l) (precedes e f l) (and-r (same e x) (member f l)) (behind-in e f l) h)
 
 -- one more event x, new to the list: what has a barrier behind it is now separated from x
 pub separated-append : (l : List Event) (e f x : Event) → member x l ≡ false
@@ -41,7 +26,7 @@ separated-append l e f x new =
     (λ z lz.
     ap₂ _&&_ (precedes-append e (barrier z) l x) (precedes-append (barrier z) f l x)
     ∙ turn (precedes e (barrier z) l) (precedes (barrier z) f l) (member e l) (member (barrier z) l) (same f x) (same (barrier z) x)
-    (behind-in e (barrier z) l) (before-in (barrier z) f l) (λ h. ap (λ y. member y l) (same-is (barrier z) x h) ∙ new))
+    (λ h. precedes-members e (barrier z) l h .1) (λ h. precedes-members (barrier z) f l h .0) (λ h. ap (λ y. member y l) (same-is (barrier z) x h) ∙ new))
     ∙ some-or mostBarriers (λ z. precedes e (barrier z) l && precedes (barrier z) f l) (λ z. same f x && precedes e (barrier z) l)
     ∙ ap (λ t. separatedIn l e f || t) (some-and mostBarriers (same f x) (λ z. precedes e (barrier z) l))
   where

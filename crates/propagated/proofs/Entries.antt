@@ -4,51 +4,24 @@ use Prim.Native.Nat.{ℕ, zero, suc, _+_, _-_, _*_, _≤_, _<_}
 use native.Mathlib.Nat.{add-zero}
 use native.Mathlib.Omega.{arith}
 use native.Mathlib.Decide.{decLt}
-use borrow.Author.Tests.{ne-eqb, le-ltb, lt-leb, eq-eqb, eqb-true, lt-ltb, le-leb}
+use borrow.Author.Tests.{ne-eqb, lt-leb, eq-eqb, le-leb}
 use mathlib.Core.Path.{_≡_, refl, sym, ap, _∙_, subst}
-use mathlib.Core.Bool.{Bool, true, false, cond, _&&_}
+use mathlib.Core.Bool.{true, false, cond, _&&_}
 use mathlib.Core.List.{List, [], _∷_, _++_}
-use lib.Dec.{eqb, leb}
+use lib.Dec.{leb}
 use lib.ListN.{getD}
 use Rattle.finite.specs.Tests.{some}
 use Rattle.finite.specs.Lists.{table}
-use Rattle.finite.proofs.Tests.{eqb-sym, iff, and-i, or-l, or-r, is-false, some-make, some-none}
+use Rattle.finite.proofs.Tests.{and-i, or-l, or-r, is-false, some-make, some-none}
 use Rattle.finite.proofs.Lists.{table-more}
 use Rattle.storage_model.specs.Limits.{mostWrites, mostBarriers, mostListed}
-use Rattle.storage_model.specs.Subsystem.{Event, write, barrier, same, member, precedes}
-use Rattle.storage_laws.proofs.Lists.{same-refl, same-is, precedes-append}
-use Rattle.storage.specs.Held.{eventOf, entryOf, listAt}
+use Rattle.storage_model.specs.Subsystem.{Event, barrier, same, member, precedes}
+use Rattle.storage_laws.proofs.Lists.{same-refl, precedes-append}
+use Rattle.storage.specs.Held.{eventOf, listAt}
+use Rattle.storage.proofs.Events.{write-of, barrier-at}
 use Rattle.propagated.specs.Lists.{Once, laterOf}
 
 -- ---- events by their entries
-
-pub as-write : (x : ℕ) → x < mostWrites → eventOf x ≡ write x
-unfolding eventOf
-as-write x h = ap (λ (b : Bool). cond b (write x) (barrier (x - mostWrites))) (lt-ltb x mostWrites h)
-
-pub as-barrier : (x : ℕ) → mostWrites ≤ x → eventOf x ≡ barrier (x - mostWrites)
-unfolding eventOf
-as-barrier x h =
-    ap (λ (b : Bool). cond b (write x) (barrier (x - mostWrites)))
-    (le-ltb x mostWrites h)
-
-entry-back : (x : ℕ) → entryOf (eventOf x) ≡ x
-unfolding entryOf
-entry-back x = by (decLt x mostWrites)
-  where
-    by : Dec (x < mostWrites) → entryOf (eventOf x) ≡ x
-    by (yes l) = ap entryOf (as-write x l)
-    by (no d) = ap entryOf (as-barrier x (omega arith)) ∙ omega arith
-
--- two entries name one event where they are one number; the second says the same of an entry e that was read
-pub same-entry : (x y : ℕ) → same (eventOf x) (eventOf y) ≡ eqb x y
-same-entry x y =
-    iff
-    (λ h. eq-eqb x y (sym (entry-back x) ∙ ap entryOf (same-is (eventOf x) (eventOf y) h) ∙ entry-back y))
-    (λ h. subst (λ (z : ℕ). same (eventOf x) (eventOf z) ≡ true) (eqb-true x y h) (same-refl (eventOf x)))
-
-pub is-entry : {e y : ℕ} (x : ℕ) → e ≡ y → same (eventOf x) (eventOf y) ≡ eqb e x
-is-entry {e} {y} x h = same-entry x y ∙ ap (eqb x) (sym h) ∙ eqb-sym x e
 
 -- which entries name barriers
 pub named-barrier : (x : ℕ) → x < mostListed → some mostBarriers (λ z. same (barrier z) (eventOf x)) ≡ leb mostWrites x
@@ -57,11 +30,11 @@ named-barrier x h = by (decLt x mostWrites)
   where
     by : Dec (x < mostWrites) → some mostBarriers (λ z. same (barrier z) (eventOf x)) ≡ leb mostWrites x
     by (yes l) =
-        some-none mostBarriers (λ z. same (barrier z) (eventOf x)) (λ z lz. ap (same (barrier z)) (as-write x l))
+        some-none mostBarriers (λ z. same (barrier z) (eventOf x)) (λ z lz. ap (same (barrier z)) (write-of x l))
         ∙ sym (lt-leb mostWrites x l)
     by (no d) =
         some-make mostBarriers (λ z. same (barrier z) (eventOf x)) (x - mostWrites) (omega arith)
-        (ap (same (barrier (x - mostWrites))) (as-barrier x (omega arith)) ∙ same-refl (barrier (x - mostWrites)))
+        (ap (same (barrier (x - mostWrites))) (barrier-at x (omega arith)) ∙ same-refl (barrier (x - mostWrites)))
         ∙ sym (le-leb mostWrites x (omega arith))
 
 -- what an address holds behind an entry: a write to it, a write to another, a barrier
@@ -69,17 +42,17 @@ pub later-write : (addresses values : List ℕ) (a v : ℕ) {e : ℕ} → e < mo
     → getD values e 0 ≡ laterOf addresses values a v (eventOf e)
 unfolding laterOf
 later-write as′ vs a v {e} l h =
-    sym (ap (laterOf as′ vs a v) (as-write e l) ∙ ap (λ b. cond b (getD vs e 0) v) (eq-eqb (getD as′ e 0) a h))
+    sym (ap (laterOf as′ vs a v) (write-of e l) ∙ ap (λ b. cond b (getD vs e 0) v) (eq-eqb (getD as′ e 0) a h))
 
 pub later-other : (addresses values : List ℕ) (a v : ℕ) {e : ℕ} → e < mostWrites → (getD addresses e 0 ≡ a → ⊥)
     → v ≡ laterOf addresses values a v (eventOf e)
 unfolding laterOf
 later-other as′ vs a v {e} l h =
-    sym (ap (laterOf as′ vs a v) (as-write e l) ∙ ap (λ b. cond b (getD vs e 0) v) (ne-eqb (getD as′ e 0) a h))
+    sym (ap (laterOf as′ vs a v) (write-of e l) ∙ ap (λ b. cond b (getD vs e 0) v) (ne-eqb (getD as′ e 0) a h))
 
 pub later-barrier : (addresses values : List ℕ) (a v : ℕ) {e : ℕ} → mostWrites ≤ e → v ≡ laterOf addresses values a v (eventOf e)
 unfolding laterOf
-later-barrier as′ vs a v {e} l = sym (ap (laterOf as′ vs a v) (as-barrier e l))
+later-barrier as′ vs a v {e} l = sym (ap (laterOf as′ vs a v) (barrier-at e l))
 
 -- ---- thread t's list by its entries
 

@@ -20,9 +20,10 @@ use Rattle.storage_model.specs.Limits.{mostWrites, mostBarriers, mostListed}
 use Rattle.storage_model.specs.Subsystem.{Event, barrier, same, member, precedes}
 use Rattle.storage_laws.proofs.Lists.{member-append, precedes-append}
 use Rattle.storage.specs.Held.{eventOf, listAt}
+use Rattle.storage.proofs.Events.{same-entry, is-entry}
 use Rattle.propagated.specs.Lists.{Lists, Once, separatedIn, laterOf, latestIn}
 use Rattle.propagated.proofs.Appended.{fencedIn, separated-append, fenced-append, latest-append}
-use Rattle.propagated.proofs.Entries.{entryAt, is-entry, same-entry, named-barrier, firsts, firsts-none, firsts-more, firsts-all, firsts-new}
+use Rattle.propagated.proofs.Entries.{entryAt, named-barrier, firsts, firsts-none, firsts-more, firsts-all, firsts-new}
 
 -- a set by what a list says of events
 module _ (g : List Event → Event → Bool) where

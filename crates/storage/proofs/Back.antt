@@ -15,13 +15,13 @@ use Rattle.model.specs.Limits.{mostThreads, mostAddresses}
 use Rattle.storage_model.specs.Limits.{mostWrites, mostBarriers, mostListed}
 use Rattle.storage_model.specs.Subsystem.{State, Event, write, noWrite, noBarrier, member, events, coherent, writesSeen, barriersSeen}
 use Rattle.storage_model.specs.Sound.{Sound, Within}
+use Rattle.storage_laws.proofs.Lists.{member-at}
 use Rattle.storage_laws.proofs.Relations.{relation-same}
 use Rattle.case.specs.Held.{pad}
 use Rattle.case.proofs.Pad.{pad-get}
 use Rattle.case.proofs.HeldBack.{back, in-fields, in-rows}
 use Rattle.storage.specs.Held.{eventOf, entryOf, listAt, edgeIn, relationIn, setOf, stateOf, held, Good}
 use Rattle.storage.proofs.Events.{event-back}
-use Rattle.storage.proofs.Entries.{member-at}
 use Rattle.storage.proofs.Sets.{set-bit}
 use Rattle.storage.proofs.Means.{lists-few}
 use Rattle.storage.proofs.Stores.{entries-at, entries-length, entries-short}

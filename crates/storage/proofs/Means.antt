@@ -20,6 +20,7 @@ use Rattle.model.specs.Limits.{mostThreads, mostAddresses}
 use Rattle.storage_model.specs.Limits.{mostWrites, mostBarriers, mostListed}
 use Rattle.storage_model.specs.Subsystem.{State, Write, Barrier, Event, noWrite, noBarrier, member, precedes, writer, address, value, owner, class, events, coherent, writesSeen, barriersSeen, unacknowledgedSync}
 use Rattle.storage_model.specs.Sound.{Sound, Within, WriteWithin, BarrierWithin}
+use Rattle.storage_laws.proofs.Lists.{all-members}
 use Rattle.storage_laws.proofs.Relations.{related-in}
 use Rattle.storage_laws.proofs.Short.{lists-short}
 use Rattle.case.specs.Held.{pad, rowsOf}
@@ -29,7 +30,7 @@ use Rattle.storage.specs.declared.Storage.{Storage as Held}
 use Rattle.storage.proofs.Events.{entry-low}
 use Rattle.storage.proofs.Sets.{set-bit}
 use Rattle.storage.proofs.Stores.{entries-short}
-use Rattle.storage.proofs.Entries.{all-members, everywhere}
+use Rattle.storage.proofs.Entries.{everywhere}
 
 -- the lists of a state are short
 pub lists-few : (s : State) → Sound s → Within s → (t : ℕ) → length (events s t) ≤ mostListed

@@ -1,6 +1,7 @@
 -- Lists of events, and what is appended to one.
 -- Assumes nothing.
-use Prim.Native.Nat.{ℕ, _<_}
+use Prim.Native.Nat.{ℕ, zero, suc, _<_}
+use native.Mathlib.Nat.{not-suc-le-zero}
 use native.Mathlib.Omega.{arith}
 use native.Mathlib.Decide.{decLt, ℕ-discrete}
 use mathlib.Core.Path.{_≡_, refl, ap, _∙_}
@@ -10,7 +11,8 @@ use mathlib.Core.List.{List, [], _∷_, _++_}
 use lib.ListN.{length, getD}
 use lib.Seq.{getD-set-same, getD-set-other, set-out}
 use borrow.Author.Tests.{eq-eqb, eqb-true}
-use Rattle.finite.proofs.Tests.{or-false}
+use Rattle.finite.specs.Lists.{All}
+use Rattle.finite.proofs.Tests.{or-l, or-r, or-false}
 use Rattle.storage_model.specs.Subsystem.{Event, write, barrier, same, member, precedes, appended}
 
 -- `same` is equality
@@ -55,6 +57,19 @@ precedes-append e f [] x = none (same e x)
     none false = refl
 precedes-append e f (y ∷ l) x =
     rw (member-append f l x, precedes-append e f l x) (spread (same e y) (member f l) (same f x) (precedes e f l) (member e l))
+
+-- what holds of every event that stands in a list
+pub all-members : (P : Event → Type 0) (l : List Event) → ((e : Event) → member e l ≡ true → P e) → All P l
+unfolding member
+all-members P [] f = tt
+all-members P (x ∷ l) f = (f x (or-l (same x x) (member x l) (same-refl x)), all-members P l (λ e h. f e (or-r (same e x) (member e l) h)))
+
+-- the event at a place stands in the list
+pub member-at : (l : List Event) (i : ℕ) (d : Event) → i < length l → member (getD l i d) l ≡ true
+unfolding member
+member-at [] i d h = absurd (not-suc-le-zero h)
+member-at (x ∷ l) zero d h = or-l (same x x) (member x l) (same-refl x)
+member-at (x ∷ l) (suc i) d h = or-r (same (getD l i d) x) (member (getD l i d) l) (member-at l i d (omega arith))
 
 -- a thread's list stays, or has e at its end
 pub appended-at : (ls : List (List Event)) (t : ℕ) (e : Event) (u : ℕ)
