@@ -5,7 +5,7 @@ use native.Mathlib.Nat.{zero-mul}
 use native.Mathlib.Omega.{arith}
 use mathlib.Core.Path.{_≡_, refl, ap, sym, _∙_}
 use mathlib.Core.List.{List, [], _∷_, _++_, map, append-assoc, append-nil}
-use lib.ListN.{length, getD, set, take, drop, replicate, length-append, length-set, length-replicate, length-map, List·getD-append}
+use lib.ListN.{length, getD, set, take, drop, replicate, length-append, length-set, length-replicate, length-map, List·getD-append, replicate-append-replicate}
 use lib.Seq.{set-append-seam, set-append-left, getD-append-add, take-at, drop-at}
 use borrow.Rule.Slice.PartMut.{putMid}
 use Rattle.model.specs.Limits.{mostEvents}
@@ -78,6 +78,13 @@ drop-zeros : (a b : ℕ) → drop {A = ℕ} a (replicate b 0) ≡ replicate (b -
 drop-zeros zero b = let z : b - 0 ≡ b = omega arith in rw z
 drop-zeros (suc a) zero = let z : 0 - suc a ≡ 0 = omega arith in rw z
 drop-zeros (suc a) (suc b) = let z : suc b - suc a ≡ b - a = omega arith in rw z (drop-zeros a b)
+
+-- zeros behind zeros
+pub pad-zeros : (n k : ℕ) → k ≤ n → pad n (replicate k 0) ≡ replicate n 0
+unfolding pad
+pad-zeros n k h =
+    let e : k + (n - k) ≡ n = omega arith in
+    rw length-replicate (replicate-append-replicate k (n - k) 0 ∙ ap (λ (i : ℕ). replicate i 0) e)
 
 -- what is filled into zeros is padded
 pub padded : (n k : ℕ) (xs : List ℕ) → length xs ≡ k → xs ++ drop k (replicate n 0) ≡ pad n xs

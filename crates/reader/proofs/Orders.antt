@@ -6,7 +6,7 @@ use mathlib.Core.List.{List}
 use native.Mathlib.Omega.{arith}
 use native.Mathlib.Nat.{mul-le-mul}
 use lib.Bits.{bitOr}
-use lib.ListN.{length, getD, set, replicate, length-set, length-replicate, replicate-append-replicate}
+use lib.ListN.{length, getD, set, replicate, length-set, length-replicate}
 use borrow.Author.Tests.{le-leb, lt-leb}
 use mir.Syntax.{w64, w32}
 use mir.Val.{Fits}
@@ -20,7 +20,7 @@ use Rattle.number.proofs.Turns.{turns-none, turns-stop, turns-next}
 use Rattle.model.specs.Limits.{mostEvents}
 use Rattle.model.specs.Record.{Pair, Rows, pair, risingPair, nextPair, order}
 use Rattle.case.specs.Held.{pad}
-use Rattle.case.proofs.Pad.{pad-get, pad-put}
+use Rattle.case.proofs.Pad.{pad-get, pad-put, pad-zeros}
 use Rattle.reader.specs.Answers.{Stores, Padded, pairs, Ran, inRow, pairOut}
 use Rattle.reader.specs.declared.PairRead.{PairRead}
 use Rattle.reader.specs.declared.PairRead.the-variants as the
@@ -111,12 +111,6 @@ pub record Pairing (s : List ℕ) (at k count : ℕ) (array₀ array : List ℕ)
   pub few : left ≤ k * k
   pub same : onward (λ o p. next (o .rows) p) (turns left (nextPair k) (record { least = least; rows = rows }) s place) ≡ pairs k count s at
 
-zeros : (n k : ℕ) → k ≤ n → replicate n 0 ≡ pad n (replicate k 0)
-unfolding pad
-zeros n k h =
-    let z : k + (n - k) ≡ n = omega arith in
-    simp (length-replicate, replicate-append-replicate, z)
-
 module _ (s : List ℕ) (at k : ℕ) (r₁ : NumberRead) (e₁ : r₁ ≡ readNumber s at (k * k)) where
   pub no-count : (f : Refusal) (x p : ℕ) (array : List ℕ) → r₁ ≡ Refused x p → f ≡ refusalOf r₁ → Stores (Padded mostEvents array) (order k s at) (place.Refused f)
   unfolding order upTo refusalOf
@@ -135,7 +129,7 @@ module _ (s : List ℕ) (at k count : ℕ) (array₀ : List ℕ) where
   unfolding pairs
   begun h z = record {
     rows = replicate k 0;
-    stored = z ∙ zeros mostEvents k (h .0);
+    stored = z ∙ sym (pad-zeros mostEvents k (h .0));
     size = length-replicate k 0;
     kept = refl;
     room = ap length z ∙ length-replicate {A = ℕ} mostEvents 0;

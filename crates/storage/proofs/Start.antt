@@ -5,7 +5,7 @@ use native.Mathlib.Nat.{zero-mul}
 use native.Mathlib.Omega.{arith}
 use mathlib.Core.Path.{_≡_, refl, sym, ap, ap₂, _∙_}
 use mathlib.Core.List.{List, [], _∷_, _++_, map}
-use lib.ListN.{length, replicate, length-replicate, replicate-append-replicate}
+use lib.ListN.{length, replicate, replicate-append-replicate}
 use Rattle.finite.specs.Lists.{table, All}
 use Rattle.model.specs.Limits.{mostThreads, mostAddresses, mostValue}
 use Rattle.storage_model.specs.Limits.{mostWrites, mostBarriers, mostListed}
@@ -13,14 +13,9 @@ use Rattle.storage_model.specs.Subsystem.{Event, initial}
 use Rattle.storage_laws.proofs.Sound.{sound-initial}
 use Rattle.storage_laws.proofs.Within.{within-initial}
 use Rattle.case.specs.Held.{pad, rowsOf}
+use Rattle.case.proofs.Pad.{pad-zeros}
 use Rattle.storage.specs.Held.{entryOf, stateOf, held, Good}
 use Rattle.storage.proofs.Back.{state-back, good-held}
-
-zeros : (n k : ℕ) → n ≤ k → pad k (replicate n 0) ≡ replicate k 0
-unfolding pad
-zeros n k h =
-    let e : n + (k - n) ≡ k = omega arith in
-    rw length-replicate (replicate-append-replicate n (k - n) 0 ∙ ap (λ (i : ℕ). replicate i 0) e)
 
 no-lengths : (n : ℕ) → map length (replicate {A = List Event} n []) ≡ replicate n 0
 no-lengths zero = refl
@@ -54,9 +49,9 @@ pub held-initial : (n : ℕ) (initials : List ℕ) → n ≤ mostThreads
     }
 unfolding held initial pad table
 held-initial n initials h =
-    let counts : pad mostThreads (map length (replicate {A = List Event} n [])) ≡ replicate mostThreads 0 = ap (pad mostThreads) (no-lengths n) ∙ zeros n mostThreads h in
+    let counts : pad mostThreads (map length (replicate {A = List Event} n [])) ≡ replicate mostThreads 0 = ap (pad mostThreads) (no-lengths n) ∙ pad-zeros mostThreads n h in
     let entries : pad (mostThreads * mostListed) (rowsOf mostListed (map (map entryOf) (replicate n []))) ≡ replicate (mostThreads * mostListed) 0 =
-    ap (pad (mostThreads * mostListed)) (no-entries n mostListed) ∙ zeros (n * mostListed) (mostThreads * mostListed) (omega (arith, h)) in
+    ap (pad (mostThreads * mostListed)) (no-entries n mostListed) ∙ pad-zeros (mostThreads * mostListed) (n * mostListed) (omega (arith, h)) in
     rw (counts, entries)
 
 -- it is good
