@@ -3,14 +3,11 @@
 use Prim.Native.Nat.{ℕ, _+_, _*_, _<_}
 use native.Mathlib.Omega.{arith}
 use mathlib.Core.Path.{_≡_, refl, sym, ap, _∙_, subst}
-use mathlib.Core.Bool.{Bool, true, false, _&&_}
+use mathlib.Core.Bool.{Bool, true, false}
 use mathlib.Core.List.{List, [], map}
 use lib.Dec.{eqb}
 use lib.ListN.{length, getD, length-map, List·getD-map}
-use borrow.Author.Tests.{lt-ltb}
 use Rattle.finite.specs.Tests.{tick}
-use Rattle.finite.proofs.Lists.{table-get, table-length}
-use Rattle.bits.specs.Bit.{bit}
 use Rattle.model.specs.Limits.{mostThreads, mostAddresses}
 use Rattle.storage_model.specs.Limits.{mostWrites, mostBarriers, mostListed}
 use Rattle.storage_model.specs.Subsystem.{State, Event, write, noWrite, noBarrier, member, events, coherent, writesSeen, barriersSeen}
@@ -20,11 +17,10 @@ use Rattle.storage_laws.proofs.Relations.{relation-same}
 use Rattle.case.specs.Held.{pad}
 use Rattle.case.proofs.Pad.{pad-get}
 use Rattle.case.proofs.HeldBack.{back, in-fields, in-rows}
-use Rattle.storage.specs.Held.{eventOf, entryOf, listAt, edgeIn, relationIn, setOf, stateOf, held, Good}
+use Rattle.storage.specs.Held.{eventOf, entryOf, listAt, edgeIn, relationIn, stateOf, held, Good}
 use Rattle.storage.proofs.Events.{event-back}
-use Rattle.storage.proofs.Sets.{set-bit}
 use Rattle.storage.proofs.Means.{lists-few}
-use Rattle.storage.proofs.Stores.{entries-at, entries-length, entries-short}
+use Rattle.storage.proofs.Stores.{entries-at, entries-length, entries-short, rows-edge}
 
 module _ (s : State) (S : Sound s) (W : Within s) where
   initials-back : stateOf (held s) .initials ≡ s .initials
@@ -61,12 +57,8 @@ module _ (s : State) (S : Sound s) (W : Within s) where
       mark false = refl
 
   edge-back : (a b : ℕ) → a < writesSeen s → b < writesSeen s → edgeIn (held s .before) a b ≡ coherent s a b
-  unfolding edgeIn held
-  edge-back a b la lb =
-      let row : getD (held s .before) b 0 ≡ setOf (writesSeen s) (λ a. coherent s a b) =
-      pad-get mostWrites _ b (rw (table-length 0 (writesSeen s) (λ b. setOf (writesSeen s) (λ a. coherent s a b))) lb)
-      ∙ table-get (writesSeen s) (λ b. setOf (writesSeen s) (λ a. coherent s a b)) b 0 lb in
-      ap (λ (r : ℕ). bit r a) row ∙ set-bit (writesSeen s) (λ a. coherent s a b) a ∙ ap (λ (t : Bool). t && coherent s a b) (lt-ltb a (writesSeen s) la)
+  unfolding held coherent
+  edge-back a b la lb = rows-edge (writesSeen s) (s .coherence) a b la lb
 
   coherence-back : stateOf (held s) .coherence ≡ s .coherence
   unfolding stateOf relationIn held

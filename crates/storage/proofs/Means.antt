@@ -11,7 +11,7 @@ use lib.ListN.{length, getD, length-map, List·getD-eq-default}
 use borrow.Author.Tests.{lt-ltb, le-ltb}
 use Rattle.finite.specs.Tests.{tick}
 use Rattle.finite.proofs.Tests.{is-false}
-use Rattle.finite.specs.Lists.{table, All}
+use Rattle.finite.specs.Lists.{All}
 use Rattle.finite.proofs.Lists.{table-get, table-length}
 use Rattle.finite.proofs.All.{all-at, all-mapped, all-places}
 use Rattle.bits.specs.Bit.{bit}
@@ -24,12 +24,12 @@ use Rattle.storage_laws.proofs.Lists.{all-members}
 use Rattle.storage_laws.proofs.Relations.{related-in}
 use Rattle.storage_laws.proofs.Short.{lists-short}
 use Rattle.case.specs.Held.{pad, rowsOf}
-use Rattle.case.proofs.Pad.{length-pad, pad-get, pad-past, field-past, rows-length}
-use Rattle.storage.specs.Held.{entryOf, listAt, edgeIn, relationIn, setOf, stateOf, held, Good}
+use Rattle.case.proofs.Pad.{length-pad, field-past, rows-length}
+use Rattle.storage.specs.Held.{entryOf, listAt, edgeIn, relationIn, setOf, rowsHeld, stateOf, held, Good}
 use Rattle.storage.specs.declared.Storage.{Storage as Held}
 use Rattle.storage.proofs.Events.{entry-low}
 use Rattle.storage.proofs.Sets.{set-bit}
-use Rattle.storage.proofs.Stores.{entries-short}
+use Rattle.storage.proofs.Stores.{entries-short, rows-size, rows-at, rows-past}
 use Rattle.storage.proofs.Entries.{everywhere}
 
 -- the lists of a state are short
@@ -165,7 +165,7 @@ module _ (c : Held) (G : Good c) where
   unfolding held
   value-is = ap (λ (x : Held). x .value) (G .same)
 
-  pub before-is : c .before ≡ pad mostWrites (table 0 (writesSeen (stateOf c)) (λ b. setOf (writesSeen (stateOf c)) (λ a. coherent (stateOf c) a b)))
+  pub before-is : c .before ≡ rowsHeld (writesSeen (stateOf c)) (stateOf c .coherence)
   unfolding held
   before-is = ap (λ (x : Held). x .before) (G .same)
 
@@ -203,7 +203,7 @@ module _ (c : Held) (G : Good c) where
   value-size = rw value-is (field-size mostWrites _ (stateOf c .writes) (G .within .few-writes))
 
   pub before-size : length (c .before) ≡ mostWrites
-  before-size = ap length before-is ∙ length-pad mostWrites _ (rw (table-length 0 (writesSeen (stateOf c)) _) (G .within .few-writes))
+  before-size = ap length before-is ∙ rows-size _ _ (G .within .few-writes)
 
   pub owner-size : length (c .owner) ≡ mostBarriers
   owner-size = rw owner-is (field-size mostBarriers _ (stateOf c .barriers) (G .within .few-barriers))
@@ -236,14 +236,13 @@ module _ (c : Held) (G : Good c) where
 
   -- coherence, with nothing from or to a write that was not seen
   pub before-past : (b : ℕ) → c .writes ≤ b → getD (c .before) b 0 ≡ 0
-  before-past b l = ap (λ (x : List ℕ). getD x b 0) before-is ∙ pad-past mostWrites _ b (rw (table-length 0 (writesSeen (stateOf c)) _, writes-of c) l)
+  before-past b l = ap (λ (x : List ℕ). getD x b 0) before-is ∙ rows-past _ _ b (rw (writes-of c) l)
 
   before-at : (b : ℕ) → b < c .writes → getD (c .before) b 0 ≡ setOf (c .writes) (λ a. coherent (stateOf c) a b)
+  unfolding coherent
   before-at b l =
-      let m : b < writesSeen (stateOf c) = rw (writes-of c) l in
       ap (λ (x : List ℕ). getD x b 0) before-is
-      ∙ pad-get mostWrites _ b (rw (table-length 0 (writesSeen (stateOf c)) _) m)
-      ∙ table-get (writesSeen (stateOf c)) _ b 0 m
+      ∙ rows-at (writesSeen (stateOf c)) (stateOf c .coherence) b (rw (writes-of c) l)
       ∙ ap (λ (k : ℕ). setOf k (λ a. coherent (stateOf c) a b)) (writes-of c)
 
   pub coherent-of : (a b : ℕ) → coherent (stateOf c) a b ≡ edgeIn (c .before) a b

@@ -14,7 +14,7 @@ use Rattle.storage_laws.proofs.Sound.{sound-initial}
 use Rattle.storage_laws.proofs.Within.{within-initial}
 use Rattle.case.specs.Held.{pad, rowsOf}
 use Rattle.case.proofs.Pad.{pad-zeros}
-use Rattle.storage.specs.Held.{entryOf, stateOf, held, Good}
+use Rattle.storage.specs.Held.{entryOf, rowsHeld, stateOf, held, Good}
 use Rattle.storage.proofs.Back.{state-back, good-held}
 
 no-lengths : (n : ℕ) → map length (replicate {A = List Event} n []) ≡ replicate n 0
@@ -47,7 +47,7 @@ pub held-initial : (n : ℕ) (initials : List ℕ) → n ≤ mostThreads
       listed = replicate mostThreads 0;
       events = replicate (mostThreads * mostListed) 0;
     }
-unfolding held initial pad table
+unfolding held rowsHeld initial pad table
 held-initial n initials h =
     let counts : pad mostThreads (map length (replicate {A = List Event} n [])) ≡ replicate mostThreads 0 = ap (pad mostThreads) (no-lengths n) ∙ pad-zeros mostThreads n h in
     let entries : pad (mostThreads * mostListed) (rowsOf mostListed (map (map entryOf) (replicate n []))) ≡ replicate (mostThreads * mostListed) 0 =

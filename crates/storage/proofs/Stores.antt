@@ -10,16 +10,18 @@ use mathlib.Core.List.{List, [], _∷_, _++_, map}
 use lib.Dec.{ltb}
 use lib.ListN.{length, getD, set, length-append, length-map, List·getD-map}
 use lib.Seq.{set-append-left, ext-getD}
+use borrow.Author.Tests.{lt-ltb}
 use Rattle.finite.specs.Lists.{table}
 use Rattle.finite.proofs.Lists.{table-get, table-length, table-same, table-snoc}
 use Rattle.bits.specs.Bit.{bit}
 use Rattle.model.specs.Limits.{mostThreads}
 use Rattle.storage_model.specs.Limits.{mostWrites, mostListed}
+use Rattle.storage_model.specs.Relation.{Relation, related}
 use Rattle.storage_model.specs.Subsystem.{Event, appended}
 use Rattle.case.specs.Held.{pad, rowsOf}
 use Rattle.case.proofs.Pad.{length-pad, pad-get, pad-set, pad-put, pad-past, map-snoc, map-set, field-put, rows-length}
-use Rattle.storage.specs.Held.{edgeIn, entryOf, setOf}
-use Rattle.storage.proofs.Sets.{set-bits, set-same, set-more}
+use Rattle.storage.specs.Held.{edgeIn, entryOf, setOf, rowsHeld}
+use Rattle.storage.proofs.Sets.{set-bit, set-bits, set-same, set-more}
 
 -- ---- a thread's list with one event more
 
@@ -93,35 +95,54 @@ events-append ls t e h b l =
 
 -- ---- the rows of coherence
 
--- rows are known by their bits
-pub before-table : (rows : List ℕ) (k : ℕ) (co : ℕ → ℕ → Bool) → length rows ≡ mostWrites → k ≤ mostWrites
-    → ((a b : ℕ) → b < k → edgeIn rows a b ≡ (ltb a k && co a b)) → ((b : ℕ) → k ≤ b → getD rows b 0 ≡ 0)
-    → rows ≡ pad mostWrites (table 0 k (λ b. setOf k (λ a. co a b)))
-unfolding edgeIn
-before-table rows k co size most bits none =
-    ext-getD 0 rows (pad mostWrites made) (size ∙ sym (length-pad mostWrites made (rw long most))) (λ b h. at b (decLt b k))
-  where
-    made : List ℕ
-    made = table 0 k (λ b. setOf k (λ a. co a b))
+module _ (k : ℕ) (co : Relation) where
+  abbrev made : List ℕ
+  made = table 0 k (λ b. setOf k (λ a. related co a b))
 
-    long : length made ≡ k
-    long = table-length 0 k _
+  long : length made ≡ k
+  long = table-length 0 k _
 
-    at : (b : ℕ) → Dec (b < k) → getD rows b 0 ≡ getD (pad mostWrites made) b 0
-    at b (yes l) =
-        set-bits k (λ a. co a b) (getD rows b 0) (λ a. bits a b l) ∙ sym (pad-get mostWrites made b (rw long l) ∙ table-get k (λ b. setOf k (λ a. co a b)) b 0 l)
-    at b (no d) = none b (omega arith) ∙ sym (pad-past mostWrites made b (rw long (omega arith)))
+  -- a row for each write that there may be
+  pub rows-size : k ≤ mostWrites → length (rowsHeld k co) ≡ mostWrites
+  unfolding rowsHeld
+  rows-size h = length-pad mostWrites made (rw long h)
+
+  -- the row of one of the k writes
+  pub rows-at : (b : ℕ) → b < k → getD (rowsHeld k co) b 0 ≡ setOf k (λ a. related co a b)
+  unfolding rowsHeld
+  rows-at b l = pad-get mostWrites made b (rw long l) ∙ table-get k (λ b. setOf k (λ a. related co a b)) b 0 l
+
+  -- the others are empty
+  pub rows-past : (b : ℕ) → k ≤ b → getD (rowsHeld k co) b 0 ≡ 0
+  unfolding rowsHeld
+  rows-past b l = pad-past mostWrites made b (rw long l)
+
+  -- what they hold
+  pub rows-edge : (a b : ℕ) → a < k → b < k → edgeIn (rowsHeld k co) a b ≡ related co a b
+  unfolding edgeIn
+  rows-edge a b la lb =
+      ap (λ (r : ℕ). bit r a) (rows-at b lb) ∙ set-bit k (λ a. related co a b) a ∙ ap (λ (t : Bool). t && related co a b) (lt-ltb a k la)
+
+  -- rows are known by their bits
+  pub before-table : (rows : List ℕ) → length rows ≡ mostWrites → k ≤ mostWrites
+      → ((a b : ℕ) → b < k → edgeIn rows a b ≡ (ltb a k && related co a b)) → ((b : ℕ) → k ≤ b → getD rows b 0 ≡ 0) → rows ≡ rowsHeld k co
+  unfolding edgeIn
+  before-table rows size most bits none = ext-getD 0 rows (rowsHeld k co) (size ∙ sym (rows-size most)) (λ b h. at b (decLt b k))
+    where
+      at : (b : ℕ) → Dec (b < k) → getD rows b 0 ≡ getD (rowsHeld k co) b 0
+      at b (yes l) = set-bits k (λ a. related co a b) (getD rows b 0) (λ a. bits a b l) ∙ sym (rows-at b l)
+      at b (no d) = none b (omega arith) ∙ sym (rows-past b (omega arith))
 
 -- a new write's row, where the new write is before none
-pub before-more : (k : ℕ) (co co′ : ℕ → ℕ → Bool) (row : ℕ) → k < mostWrites → ((a b : ℕ) → a < k → b < k → co′ a b ≡ co a b) → ((b : ℕ) → co′ k b ≡ false)
-    → ((a : ℕ) → bit row a ≡ (ltb a k && co′ a k))
-    → set (pad mostWrites (table 0 k (λ b. setOf k (λ a. co a b)))) k row ≡ pad mostWrites (table 0 (suc k) (λ b. setOf (suc k) (λ a. co′ a b)))
-before-more k co co′ row h agree none bits =
-    pad-set mostWrites (table 0 k (λ b. setOf k (λ a. co a b))) k row (table-length 0 k _) h ∙ ap (pad mostWrites) (sym grown)
+pub before-more : (k : ℕ) (co co′ : Relation) (row : ℕ) → k < mostWrites → ((a b : ℕ) → a < k → b < k → related co′ a b ≡ related co a b)
+    → ((b : ℕ) → related co′ k b ≡ false) → ((a : ℕ) → bit row a ≡ (ltb a k && related co′ a k))
+    → set (rowsHeld k co) k row ≡ rowsHeld (suc k) co′
+unfolding rowsHeld
+before-more k co co′ row h agree none bits = pad-set mostWrites (made k co) k row (long k co) h ∙ ap (pad mostWrites) (sym grown)
   where
-    grown : table 0 (suc k) (λ b. setOf (suc k) (λ a. co′ a b)) ≡ table 0 k (λ b. setOf k (λ a. co a b)) ++ (row ∷ [])
+    grown : made (suc k) co′ ≡ made k co ++ (row ∷ [])
     grown =
         table-snoc 0 k _
         ∙ ap₂ (λ (l : List ℕ) (r : ℕ). l ++ (r ∷ []))
-        (table-same 0 k _ _ (λ b z l. set-more k (λ a. co′ a b) (none b) ∙ set-same k _ _ (λ a m. agree a b m (omega arith))))
-        (ap (λ (b : ℕ). setOf (suc k) (λ a. co′ a b)) (zero-add k) ∙ set-more k (λ a. co′ a k) (none k) ∙ sym (set-bits k (λ a. co′ a k) row bits))
+        (table-same 0 k _ _ (λ b z l. set-more k (λ a. related co′ a b) (none b) ∙ set-same k _ _ (λ a m. agree a b m (omega arith))))
+        (ap (λ (b : ℕ). setOf (suc k) (λ a. related co′ a b)) (zero-add k) ∙ set-more k (λ a. related co′ a k) (none k) ∙ sym (set-bits k (λ a. related co′ a k) row bits))

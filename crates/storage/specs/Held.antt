@@ -1,9 +1,9 @@
 -- The state that a struct means, and the struct that holds a state.
 -- Assumes nothing.
-use Prim.Native.Nat.{ℕ, zero, suc, _+_, _-_, _*_, _^_, _≤_, _<_}
+use Prim.Native.Nat.{ℕ, zero, suc, _+_, _-_, _*_, _^_}
 use mathlib.Core.Path.{_≡_}
-use mathlib.Core.Bool.{Bool, true, cond}
-use mathlib.Core.List.{List, [], _∷_, map}
+use mathlib.Core.Bool.{Bool, cond}
+use mathlib.Core.List.{List, map}
 use lib.Dec.{eqb, ltb}
 use lib.ListN.{getD, length, replicate}
 use Rattle.finite.specs.Tests.{tick}
@@ -11,8 +11,8 @@ use Rattle.finite.specs.Lists.{table}
 use Rattle.bits.specs.Bit.{bit}
 use Rattle.model.specs.Limits.{mostThreads, mostAddresses}
 use Rattle.storage_model.specs.Limits.{mostWrites, mostBarriers, mostListed}
-use Rattle.storage_model.specs.Relation.{Relation, relation}
-use Rattle.storage_model.specs.Subsystem.{State, Write, Barrier, Event, write, barrier, coherent, writesSeen, barriersSeen}
+use Rattle.storage_model.specs.Relation.{Relation, relation, related}
+use Rattle.storage_model.specs.Subsystem.{State, Event, write, barrier, writesSeen, barriersSeen}
 use Rattle.storage_model.specs.Sound.{Sound, Within}
 use Rattle.case.specs.Held.{pad, rowsOf}
 use Rattle.storage.specs.declared.Storage.{Storage as Held}
@@ -57,6 +57,10 @@ unfoldable pub setOf : (k : ℕ) → (ℕ → Bool) → ℕ
 setOf zero p = 0
 setOf (suc k) p = setOf k p + tick (p k) * 2 ^ k
 
+-- a relation of k writes in rows
+unfoldable pub rowsHeld : (k : ℕ) → Relation → List ℕ
+rowsHeld k co = pad mostWrites (table 0 k (λ b. setOf k (λ a. related co a b)))
+
 unfoldable pub held : State → Held
 held s = record {
   threads = s .threads;
@@ -66,7 +70,7 @@ held s = record {
   writer = pad mostWrites (map (λ w. w .thread) (s .writes));
   address = pad mostWrites (map (λ w. w .address) (s .writes));
   value = pad mostWrites (map (λ w. w .value) (s .writes));
-  before = pad mostWrites (table 0 (writesSeen s) (λ b. setOf (writesSeen s) (λ a. coherent s a b)));
+  before = rowsHeld (writesSeen s) (s .coherence);
   barriers = barriersSeen s;
   owner = pad mostBarriers (map (λ b. b .thread) (s .barriers));
   class = pad mostBarriers (map (λ b. b .class) (s .barriers));

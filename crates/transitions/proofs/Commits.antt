@@ -12,9 +12,7 @@ use lib.Bits.{bitOr}
 use lib.ListN.{getD, length, set, length-set}
 use lib.Seq.{getD-set-same, getD-set-other}
 use borrow.Author.Tests.{lt-ltb, eq-eqb, ne-eqb}
-use Rattle.finite.specs.Lists.{table}
 use Rattle.finite.proofs.Tests.{and-l, and-false, some-within}
-use Rattle.finite.proofs.Lists.{table-get, table-length}
 use Rattle.bits.specs.Bit.{bit}
 use Rattle.bits.proofs.Bits.{bit-or}
 use Rattle.model.specs.Rules.{orElse}
@@ -22,21 +20,19 @@ use Rattle.rows.specs.Sets.{Set}
 use Rattle.storage_model.specs.Limits.{mostWrites, mostBarriers}
 use Rattle.storage_model.specs.Trace.{commit}
 use Rattle.storage_model.specs.Relation.{Relation, related, acyclic}
-use Rattle.storage_model.specs.Subsystem.{State, Event, write, barrier, precedes, events, coherent, separated, writesSeen, barriersSeen, committed, toOneAddress, unrelated, acyclicWith, failing, effect}
+use Rattle.storage_model.specs.Subsystem.{State, Event, write, barrier, precedes, events, separated, writesSeen, barriersSeen, committed, toOneAddress, unrelated, acyclicWith, failing, effect}
 use Rattle.storage_laws.proofs.Listed.{precedes-members}
 use Rattle.storage_laws.proofs.Relations.{closure-within, acyclic-same}
 use Rattle.storage_laws.proofs.Coherence.{committed-at}
-use Rattle.case.proofs.Pad.{pad-get}
-use Rattle.storage.specs.Held.{eventOf, listAt, edgeIn, setOf, stateOf, held, Good}
+use Rattle.storage.specs.Held.{eventOf, listAt, edgeIn, rowsHeld, stateOf, held, Good}
 use Rattle.storage.specs.declared.Storage.{Storage as Held}
 use Rattle.storage.proofs.Events.{write-of}
-use Rattle.storage.proofs.Sets.{set-bit}
-use Rattle.storage.proofs.Stores.{before-table}
+use Rattle.storage.proofs.Stores.{before-table, rows-edge}
 use Rattle.storage.proofs.Means.{writes-of, writes-few, writer-of, writer-within, address-of, events-of, coherent-of, before-size, before-past}
 use Rattle.propagated.specs.Lists.{separatedIn}
 use Rattle.coherence.specs.Rows.{Committed}
 use Rattle.transitions.proofs.Ranges.{write-low}
-use Rattle.transitions.specs.Steps.{Separated, Took, rowsHeld}
+use Rattle.transitions.specs.Steps.{Separated, Took}
 
 -- ---- whether two writes are unrelated
 
@@ -69,9 +65,8 @@ committed-within s x y a b h = closure-within (writesSeen s) _ a b h .0
 -- they are the rows of the state's order with them
 pub rows-committed : (c : Held) → Good c → (x y : ℕ) {r : List ℕ} → x < c .writes → y < c .writes → Committed x y (c .before) r (c .writes)
     → r ≡ rowsHeld (c .writes) (committed (stateOf c) x y)
-unfolding rowsHeld
 rows-committed c G x y {r} lx ly C =
-    before-table r (c .writes) (related new) (C .size ∙ before-size c G) (writes-few c G)
+    before-table (c .writes) new r (C .size ∙ before-size c G) (writes-few c G)
     (λ a b l. C .done a b l ∙ sym (edges a b) ∙ below-only a (c .writes) (related new a b) (within a b))
     (λ b l. C .rest b l ∙ before-past c G b l)
   where
@@ -85,17 +80,6 @@ rows-committed c G x y {r} lx ly C =
 
     within : (a b : ℕ) → related new a b ≡ true → a < c .writes
     within a b h = rw (writes-of c) at (committed-within (stateOf c) x y a b h)
-
--- what the rows of a relation hold
-rows-edge : (k : ℕ) (co : Relation) (a b : ℕ) → a < k → b < k → edgeIn (rowsHeld k co) a b ≡ related co a b
-unfolding edgeIn rowsHeld
-rows-edge k co a b la lb =
-    ap (λ (r : ℕ). bit r a) (pad-get mostWrites (table 0 k row) b (rw (table-length 0 k row) lb) ∙ table-get k row b 0 lb)
-    ∙ set-bit k (λ a. related co a b) a
-    ∙ ap (λ (t : Bool). t && related co a b) (lt-ltb a k la)
-  where
-    row : ℕ → ℕ
-    row b = setOf k (λ a. related co a b)
 
 -- ---- the writes that a barrier separates
 
@@ -238,7 +222,7 @@ withRows c rows = record {
 }
 
 rows-effect : (c : Held) → Good c → (x y : ℕ) → withRows c (rowsHeld (c .writes) (committed (stateOf c) x y)) ≡ held (effect (stateOf c) (commit x y))
-unfolding held effect coherent rowsHeld
+unfolding held effect
 rows-effect c G x y = ap₂ withRows (G .same) (ap (λ (k : ℕ). rowsHeld k (committed (stateOf c) x y)) (sym (writes-of c)))
 
 -- the rows with the new edges are all that the step changes

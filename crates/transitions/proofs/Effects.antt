@@ -1,14 +1,13 @@
 -- The struct after a step's stores holds the state behind the step.
 -- Assumes nothing.
 use Prim.Native.Nat.{ℕ, _+_, _*_, _<_}
-use native.Mathlib.Numerals.{add-one}
 use mathlib.Core.Path.{_≡_, sym, ap, ap₂, _∙_}
 use mathlib.Core.Bool.{false, _&&_}
 use mathlib.Core.List.{List, [], _∷_, _++_, map}
 use lib.Dec.{eqb, ltb}
 use lib.ListN.{length, getD, set, length-append}
 use Rattle.finite.specs.Tests.{tick}
-use Rattle.finite.specs.Lists.{table}
+use Rattle.finite.proofs.Lists.{one-longer}
 use Rattle.model.specs.Limits.{mostThreads}
 use Rattle.storage_model.specs.Limits.{mostWrites, mostBarriers, mostListed}
 use Rattle.storage_model.specs.Trace.{acceptWrite, acceptBarrier, acknowledge, sync}
@@ -16,7 +15,7 @@ use Rattle.storage_model.specs.Relation.{related}
 use Rattle.storage_model.specs.Subsystem.{State, Write, Barrier, Event, write, barrier, events, coherent, writesSeen, barriersSeen, appended, followed, effect}
 use Rattle.case.specs.Held.{pad, rowsOf}
 use Rattle.case.proofs.Pad.{pad-next, field-put}
-use Rattle.storage.specs.Held.{stateOf, held, eventOf, entryOf, setOf, Good}
+use Rattle.storage.specs.Held.{stateOf, held, eventOf, entryOf, rowsHeld, Good}
 use Rattle.storage.specs.declared.Storage.{Storage as Held}
 use Rattle.storage.proofs.Events.{write-of, barrier-of, entry-back}
 use Rattle.storage.proofs.Stores.{listed-append, events-append, before-more}
@@ -113,7 +112,7 @@ module _ (c : Held) (G : Good c) where
 
   -- an event more in a thread's list
   pub append-held : (t x : ℕ) → t < c .threads → getD (c .listed) t 0 < mostListed → withEntry c t x ≡ held (withEvent s t (eventOf x))
-  unfolding held withEvent coherent
+  unfolding held withEvent
   append-held t x l room = λ i. record {
     threads = G .same i .threads;
     addresses = G .same i .addresses;
@@ -161,19 +160,17 @@ module _ (c : Held) (G : Good c) where
     field f = pad-next f mostWrites (s .writes) new-write (c .writes) (writes-of c) room
 
     rows : set (out .before) (c .writes) row
-        ≡ pad mostWrites
-        (table 0 (length (s .writes ++ (new-write ∷ []))) (λ b. setOf (length (s .writes ++ (new-write ∷ []))) (λ x. related (followed s t a) x b)))
+        ≡ rowsHeld (length (s .writes ++ (new-write ∷ []))) (followed s t a)
     unfolding held withEvent coherent
     rows =
         ap₂ (λ (x : Held) (k : ℕ). set (x .before) k row) write-listed (sym (writes-of c))
-        ∙ before-more (writesSeen s) (λ x y. related (s .coherence) x y) (related (followed s t a)) row (rw (writes-of c) room)
+        ∙ before-more (writesSeen s) (s .coherence) (followed s t a) row (rw (writes-of c) room)
         (λ x y _ l. followed-kept s (G .sound) t a x y l) (followed-last s (G .sound) t a)
         (λ x. new .set .has x ∙ ap (λ (k : ℕ). ltb x k && related (followed s t a) x k) (sym (writes-of c)))
-        ∙ ap (λ (k : ℕ). pad mostWrites (table 0 k (λ b. setOf k (λ x. related (followed s t a) x b))))
-        (sym (length-append (s .writes) (new-write ∷ []) ∙ add-one (writesSeen s)))
+        ∙ ap (λ (k : ℕ). rowsHeld k (followed s t a)) (sym (one-longer (s .writes) new-write))
 
     pub write-held : withWrite out (c .writes) t a v row ≡ held (effect s (acceptWrite t a v))
-    unfolding held withEvent coherent effect
+    unfolding held withEvent effect
     write-held = λ i. record {
       threads = write-listed i .threads;
       addresses = write-listed i .addresses;
@@ -205,7 +202,7 @@ module _ (c : Held) (G : Good c) where
     barrier-field f = pad-next f mostBarriers (s .barriers) new-barrier (c .barriers) (barriers-of c) room
 
     pub barrier-held : withBarrier out (c .barriers) t class mark ≡ held (effect s (acceptBarrier t class))
-    unfolding held withEvent coherent effect
+    unfolding held withEvent effect
     barrier-held = λ i. record {
       threads = barrier-listed i .threads;
       addresses = barrier-listed i .addresses;
@@ -227,7 +224,7 @@ module _ (c : Held) (G : Good c) where
 
   -- a sync acknowledged
   pub acknowledged-held : (b : ℕ) → b < c .barriers → withAcknowledged c b ≡ held (effect s (acknowledge b))
-  unfolding held coherent effect
+  unfolding held effect
   acknowledged-held b l = λ i. record {
     threads = G .same i .threads;
     addresses = G .same i .addresses;

@@ -6,14 +6,11 @@ use mathlib.Core.Bool.{_&&_, _||_}
 use mathlib.Core.List.{List}
 use lib.Dec.{ltb}
 use lib.ListN.{getD, length}
-use Rattle.finite.specs.Lists.{table}
-use Rattle.storage_model.specs.Limits.{mostWrites}
 use Rattle.storage_model.specs.Trace.{Step}
-use Rattle.storage_model.specs.Relation.{Relation, related}
+use Rattle.storage_model.specs.Relation.{related}
 use Rattle.storage_model.specs.Subsystem.{State, Event, arrived, separated, appended, followed, failing, effect}
 use Rattle.rows.specs.Sets.{Set}
-use Rattle.case.specs.Held.{pad}
-use Rattle.storage.specs.Held.{stateOf, held, eventOf, edgeIn, setOf}
+use Rattle.storage.specs.Held.{stateOf, held, eventOf, edgeIn}
 use Rattle.storage.specs.declared.Storage.{Storage as Held}
 use Rattle.transitions.specs.declared.Stepped.{Stepped}
 
@@ -36,10 +33,6 @@ withEvent s t e = record {
 -- the writes before a new one by thread t to address a
 pub record NewRow (c : Held) (t a row : ℕ) : Type 0 where
   pub set : Set row (λ v. ltb v (c .writes) && related (followed (stateOf c) t a) v (c .writes))
-
--- a relation of k writes in rows, with zeros beyond them
-unfoldable pub rowsHeld : (k : ℕ) → Relation → List ℕ
-rowsHeld k co = pad mostWrites (table 0 k (λ b. setOf k (λ a. related co a b)))
 
 -- the rows of the writes below i have those that a barrier separates from them; the others are as they were
 pub record Separated (c : Held) (old new : List ℕ) (i : ℕ) : Type 0 where

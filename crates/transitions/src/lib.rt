@@ -11,8 +11,8 @@ ghost use Rattle.storage_model.specs.Trace.{sync, acceptWrite, acceptBarrier, p
 ghost use Rattle.storage_model.specs.Subsystem.{writeIsAfter, barriersWentBefore, groupAWentBefore, toOneAddress, unrelated as unrelatedIn, acyclicWith, committed as committedIn, respondsLatest, everywhere as everywhereIn, followed, failing, effect};
 ghost use Rattle.storage_model.specs.Fits.{StepFits};
 ghost use Rattle.rows.specs.Sets.{Set};
-ghost use Rattle.storage.specs.Held.{Good, stateOf, held, eventOf, edgeIn};
-ghost use Rattle.transitions.specs.Steps.{Here, Took, NewRow, Separated, rowsHeld, withEvent};
+ghost use Rattle.storage.specs.Held.{Good, stateOf, held, eventOf, edgeIn, rowsHeld};
+ghost use Rattle.transitions.specs.Steps.{Here, Took, NewRow, Separated, withEvent};
 use case::Case;
 use storage::Storage;
 
