@@ -1,30 +1,28 @@
 -- The conditions of propagating and of a read response, by the struct's arrays.
 -- Assumes nothing.
-use Prim.Native.Nat.{ℕ, zero, suc, _+_, _-_, _*_, _^_, _≤_, _<_}
+use Prim.Native.Nat.{ℕ, _+_, _-_, _^_, _<_}
 use native.Mathlib.Omega.{arith}
 use native.Mathlib.Decide.{decLt}
 use mathlib.Core.Path.{_≡_, refl, sym, ap, ap₂, _∙_, subst}
-use mathlib.Core.Bool.{Bool, true, false, not, cond, _&&_, _||_, true≢false, false≢true}
+use mathlib.Core.Bool.{Bool, true, false, not, cond, _&&_, _||_}
 use mathlib.Core.List.{List, [], _∷_}
 use lib.Dec.{eqb, ltb}
 use lib.Bits.{bitAnd}
-use lib.ListN.{getD, length}
+use lib.ListN.{getD}
 use borrow.Author.Tests.{lt-ltb, le-ltb, eq-eqb, ne-eqb}
 use Rattle.finite.specs.Tests.{all, some, _⇒_}
 use Rattle.finite.proofs.Tests.{iff, and-true, and-false, and-comm, or-l, or-r, imp-e, imp-i, imp-no, all-get, all-make, all-same, some-same}
 use Rattle.bits.specs.Bit.{bit, width}
 use Rattle.bits.proofs.Bits.{bit-and, bit-ones}
-use Rattle.model.specs.Limits.{mostThreads, mostAddresses}
-use Rattle.model.specs.Rules.{orElse}
-use Rattle.storage_model.specs.Limits.{mostWrites, mostBarriers, mostListed}
+use Rattle.storage_model.specs.Limits.{mostWrites}
 use Rattle.storage_model.specs.Trace.{propagateWrite, propagateBarrier, respond}
-use Rattle.storage_model.specs.Subsystem.{State, Event, write, barrier, same, member, precedes, writer, address, value, owner, events, arrived, coherent, groupA, latest, writesSeen, barriersSeen, writeIsNew, writeIsAfter, barriersWentBefore, barrierIsNew, groupAWentBefore, respondsLatest, failing, effect}
+use Rattle.storage_model.specs.Subsystem.{State, Event, write, barrier, same, member, precedes, writer, address, value, owner, events, arrived, coherent, groupA, latest, barriersSeen, writeIsNew, writeIsAfter, barriersWentBefore, barrierIsNew, groupAWentBefore, respondsLatest, failing, effect}
 use Rattle.storage_laws.proofs.Listed.{precedes-members}
 use Rattle.rows.specs.Sets.{Set}
 use Rattle.storage.specs.Held.{eventOf, listAt, edgeIn, stateOf, Good}
 use Rattle.storage.specs.declared.Storage.{Storage as Held}
 use Rattle.storage.proofs.Events.{write-of, barrier-of}
-use Rattle.storage.proofs.Means.{writes-of, barriers-of, initial-of, writer-of, address-of, value-of, owner-of, events-of, coherent-of, writer-within, owner-within, threads-few, writes-few, barriers-few, listed-few, events-low, list-once, addresses-few}
+use Rattle.storage.proofs.Means.{writes-of, initial-of, writer-of, address-of, value-of, owner-of, events-of, coherent-of, writer-within, owner-within, listed-few, events-low, list-once}
 use Rattle.transitions.proofs.Ranges.{write-low}
 use Rattle.propagated.specs.Lists.{Lists, Once, latestIn, laterOf}
 use Rattle.transitions.specs.Steps.{Here, Took}
