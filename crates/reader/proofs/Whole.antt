@@ -1,11 +1,11 @@
 -- The ways through reading a record, and where its name stands.
 -- Assumes nothing.
-use Prim.Native.Nat.{ℕ, zero, suc, _+_, _-_, _≤_, _<_}
+use Prim.Native.Nat.{ℕ, _+_, _-_, _≤_, _<_}
 use mathlib.Core.Path.{_≡_, refl, ap, sym, _∙_}
 use mathlib.Core.Logic.{⊎-elim}
-use mathlib.Core.List.{List, [], _∷_, _++_, map}
+use mathlib.Core.List.{List, []}
 use native.Mathlib.Omega.{arith}
-use lib.ListN.{length, getD, take, drop, replicate}
+use lib.ListN.{length, take, drop, replicate, List·getD-eq-default}
 use Rattle.number.specs.Reader.{Out, stop, next}
 use Rattle.number.specs.declared.Refusal.{Refusal}
 use Rattle.number.proofs.Encoding.{lt-or-ge}
@@ -15,6 +15,8 @@ use Rattle.model.specs.Record.{dependencyGood, dependencies, storeTo, head, lis
 use Rattle.model.specs.Answers.{namePart, name as nameOf}
 use Rattle.case.specs.Held.{pad, goodAt, held, emptyCase}
 use Rattle.case.proofs.Links.{goods-of}
+use Rattle.case.proofs.Pad.{field-past}
+use Rattle.case.proofs.HeldBack.{in-fields}
 use Rattle.case.specs.Stores.{storeAt}
 use Rattle.reader.specs.Answers.{Events, Links, Counts, modelHead, headOut, StoresCounted, ListingStored, RestStored, refusedCount, readingOf, readingFrom, partOf}
 use Rattle.reader.specs.declared.Head as code
@@ -31,32 +33,12 @@ unfolding pad
 no-events = record { kind = refl; thread = refl; address = refl; value = refl }
 
 -- the arrays tell the stores
-in-list : (f : Event → ℕ) (es : List Event) (zs : List ℕ) (e : ℕ) → e < length es → getD (map f es ++ zs) e 0 ≡ f (getD es e noEvent)
-in-list f [] zs e h = absurd (omega arith)
-in-list f (a ∷ es) zs zero h = refl
-in-list f (a ∷ es) zs (suc e) h = in-list f es zs e (omega arith)
-
-zeros-at : (n e : ℕ) → getD {A = ℕ} (replicate n 0) e 0 ≡ 0
-zeros-at zero e = refl
-zeros-at (suc n) zero = refl
-zeros-at (suc n) (suc e) = zeros-at n e
-
-past-list : (f : Event → ℕ) (es : List Event) (n e : ℕ) → length es ≤ e → getD (map f es ++ replicate n 0) e 0 ≡ 0
-past-list f [] n e h = zeros-at n e
-past-list f (a ∷ es) n zero h = absurd (omega arith)
-past-list f (a ∷ es) n (suc e) h = past-list f es n e (omega arith)
-
-past-events : (es : List Event) (e : ℕ) → length es ≤ e → getD es e noEvent ≡ noEvent
-past-events [] e h = refl
-past-events (a ∷ es) zero h = absurd (omega arith)
-past-events (a ∷ es) (suc e) h = past-events es e (omega arith)
-
 same-store : (ks ts as′ vs : List ℕ) (es : List Event) → Events ks ts as′ vs es → (x e : ℕ) → storeAt ks as′ x e ≡ storeTo es x e
-unfolding storeAt storeTo pad
+unfolding storeAt storeTo
 same-store ks ts as′ vs es h x e =
     ⊎-elim
-    (λ (l : e < length es). rw (h .kind, h .address, in-list (λ a. a .kind) es _ e l, in-list (λ a. a .address) es _ e l))
-    (λ (l : length es ≤ e). rw (h .kind, past-list (λ a. a .kind) es _ e l, past-events es e l))
+    (λ (l : e < length es). rw (h .kind, h .address, in-fields mostEvents (λ a. a .kind) noEvent es e l, in-fields mostEvents (λ a. a .address) noEvent es e l))
+    (λ (l : length es ≤ e). rw (h .kind, field-past (λ a. a .kind) mostEvents es e l, List·getD-eq-default es noEvent l))
     (lt-or-ge e (length es))
 
 same-stores : (ks ts as′ vs : List ℕ) (es : List Event) → Events ks ts as′ vs es → storeAt ks as′ ≡ storeTo es
@@ -64,10 +46,9 @@ same-stores ks ts as′ vs es h = λ i x e. same-store ks ts as′ vs es h x e i
 
 -- and which dependencies are good
 same-goods : (k : ℕ) (ks ts as′ vs : List ℕ) (es : List Event) → Events ks ts as′ vs es → length es ≡ k → goodAt k ks ts ≡ dependencyGood es
-unfolding pad
 same-goods k ks ts as′ vs es h size =
     goods-of k ks ts es size
-    (λ e l. sym (rw (h .kind) (in-list (λ a. a .kind) es _ e (omega arith)))) (λ e l. sym (rw (h .thread) (in-list (λ a. a .thread) es _ e (omega arith))))
+    (λ e l. sym (rw (h .kind) (in-fields mostEvents (λ a. a .kind) noEvent es e (omega arith)))) (λ e l. sym (rw (h .thread) (in-fields mostEvents (λ a. a .thread) noEvent es e (omega arith))))
 
 -- what a stage with a count says of what it read
 pub record Counted {A : Type 0} (number : A → ℕ) (S : A → Type 0) (o : Out A) (k p : ℕ) : Type 0 where
