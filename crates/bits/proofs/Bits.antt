@@ -7,12 +7,12 @@ use native.Mathlib.Numerals.{one-add}
 use native.Mathlib.Omega.{arith}
 use lib.Dec.{eqb, ltb, eqb·zero-suc, eqb·suc-zero, eqb·suc-suc, leb·suc-suc}
 use lib.Arith.{digits-mod, digits-div, lt-one, dbl-pred}
-use lib.Bits.{bitAnd, bitOr, and-step, or-step, and-shr, or-shr, and-le-l, shifted-half, shifted-even}
+use lib.Bits.{bitAnd, bitOr, and-step, or-step, and-shr, or-shr, and-le-l, and-mask, shifted-half, shifted-even}
 use lib.Pow.{pow-pos, pow-lt, shr-shr}
 use borrow.Author.Tests.{eqb-true, eq-eqb, ltb-true, lt-ltb, le-ltb}
 use Rattle.bits.specs.Bit.{bit}
 use Rattle.finite.specs.Tests.{all, _⇒_}
-use Rattle.finite.proofs.Tests.{iff, and-l, and-r, and-i, imp-e, imp-i, all-get, all-make}
+use Rattle.finite.proofs.Tests.{iff, and-l, and-r, and-i, and-true, imp-e, imp-i, all-get, all-make}
 
 two-pos : 0 < 2
 two-pos = zero-lt-suc 1
@@ -144,6 +144,10 @@ bit-with row i j = bit-or row (2 ^ i) j ∙ ap (λ t. bit row j || t) (bit-pow i
 
 pub bit-below : (a k j : ℕ) → bit (bitAnd a (2 ^ k - 1)) j ≡ (bit a j && ltb j k)
 bit-below a k j = bit-and a (2 ^ k - 1) j ∙ ap (λ t. bit a j && t) (bit-ones k j)
+
+-- the bits below k are those of what is left by 2 ^ k
+pub bit-left : (r k b : ℕ) → b < k → bit (r % 2 ^ k) b ≡ bit r b
+bit-left r k b h = ap (λ (x : ℕ). bit x b) (sym (and-mask r k)) ∙ bit-below r k b ∙ ap (λ t. bit r b && t) (lt-ltb b k h) ∙ and-true (bit r b)
 
 -- what a and the numbers below k share is inside b where a is, below k
 pub inside-masked : (n k a b : ℕ) → k ≤ n

@@ -4,28 +4,21 @@ use Prim.Native.Nat.{ℕ, suc, _+_, _-_, _*_, _/_, _%_, _^_, _≤_, _<_}
 use native.Mathlib.Nat.{add-comm, mul-assoc}
 use native.Mathlib.Omega.{arith}
 use mathlib.Core.Path.{_≡_, sym, ap, _∙_}
-use mathlib.Core.Bool.{false, _&&_}
+use mathlib.Core.Bool.{false}
 use lib.Dec.{eqb}
-use lib.Bits.{and-mask, shifted-even}
+use lib.Bits.{shifted-even}
 use lib.Pow.{pow-add, shr-shr, shl-shr}
-use borrow.Author.Tests.{lt-ltb}
-use Rattle.finite.proofs.Tests.{and-true}
 use Rattle.bits.specs.Bit.{bit}
-use Rattle.bits.proofs.Bits.{bit-below}
+use Rattle.bits.proofs.Bits.{bit-left}
 
 -- to the right
 pub bit-shr : (x j e : ℕ) → bit (x / 2 ^ j) e ≡ bit x (e + j)
 unfolding bit
 bit-shr x j e = ap (λ (y : ℕ). eqb (y % 2) 1) (shr-shr x j e ∙ ap (λ (y : ℕ). x / 2 ^ y) (add-comm j e))
 
--- of the lowest w bits
-bit-mod : (x w e : ℕ) → e < w → bit (x % 2 ^ w) e ≡ bit x e
-bit-mod x w e h =
-    ap (λ (y : ℕ). bit y e) (sym (and-mask x w)) ∙ bit-below x w e ∙ ap (λ t. bit x e && t) (lt-ltb e w h) ∙ and-true (bit x e)
-
 -- to the left, in w bits
 pub bit-shl : (x j w e : ℕ) → e + j < w → bit (x * 2 ^ j % 2 ^ w) (e + j) ≡ bit x e
-bit-shl x j w e h = bit-mod (x * 2 ^ j) w (e + j) h ∙ sym (bit-shr (x * 2 ^ j) j e) ∙ ap (λ (y : ℕ). bit y e) (shl-shr x j)
+bit-shl x j w e h = bit-left (x * 2 ^ j) w (e + j) h ∙ sym (bit-shr (x * 2 ^ j) j e) ∙ ap (λ (y : ℕ). bit y e) (shl-shr x j)
 
 shifted-low : (x d e : ℕ) → bit (x * 2 ^ (suc d + e)) e ≡ false
 unfolding bit
@@ -37,4 +30,4 @@ shifted-low x d e =
 pub bit-shl-low : (x j w e : ℕ) → j ≤ w → e < j → bit (x * 2 ^ j % 2 ^ w) e ≡ false
 bit-shl-low x j w e h l =
     let z : j ≡ suc (j - suc e) + e = omega arith in
-    bit-mod (x * 2 ^ j) w e (omega arith) ∙ ap (λ (y : ℕ). bit (x * 2 ^ y) e) z ∙ shifted-low x (j - suc e) e
+    bit-left (x * 2 ^ j) w e (omega arith) ∙ ap (λ (y : ℕ). bit (x * 2 ^ y) e) z ∙ shifted-low x (j - suc e) e

@@ -14,10 +14,10 @@ use Rattle.finite.specs.Lists.{table}
 use Rattle.finite.proofs.Tests.{or-false}
 use Rattle.finite.proofs.Lists.{table-get, table-snoc}
 use Rattle.bits.specs.Bit.{bit}
+use Rattle.bits.proofs.Bits.{bit-left}
 use Rattle.model.specs.Limits.{second, mostEvents}
 use Rattle.model.specs.Case.{Event, noEvent, bare, load, store, sync, lwsync, mostKind}
 use Rattle.model.specs.Rules.{among, kind, thread, address, value, initial, isLoad, isStore, isSync, isBarrier, of, depends, before}
-use Rattle.case.proofs.Masks.{bit-left}
 use Rattle.case.specs.declared.Case.{Case as Held}
 use Rattle.case.specs.Held.{eventOf, eventsOf, linkCount, link, linksOf, caseOf}
 use Rattle.rows.specs.Sets.{orderIn, dependsIn}

@@ -13,6 +13,7 @@ use Rattle.finite.specs.Lists.{table, each}
 use Rattle.finite.proofs.Tests.{count-same}
 use Rattle.finite.proofs.Lists.{table-length, table-snoc, each-append}
 use Rattle.bits.specs.Bit.{bit}
+use Rattle.bits.proofs.Bits.{bit-left}
 use Rattle.number.specs.Number.{encode, splice}
 use Rattle.model.specs.Limits.{second, mostEvents, mostDependencies}
 use Rattle.model.specs.Case.{Dependency}
@@ -23,7 +24,6 @@ use Rattle.case.specs.declared.Case.{Case as Held}
 use Rattle.case.specs.Held.{eventsOf, linkCount, link, linksOf, caseOf}
 use Rattle.case.specs.Sound.{Sound}
 use Rattle.case.specs.Stores.{storeAt, writesAt}
-use Rattle.case.proofs.Masks.{bit-left}
 use Rattle.case.proofs.Means.{writes-of}
 use Rattle.writer.specs.Stages.{run, sum, initialAt, eventAt, listingBytes, linkAt, linksBytes, entryAt, writesOf, bitBytes, rowAt, pairsAt, pairs, orderAt, byteAt, nameBytes, restBytes, Room, Wrote, Size}
 use Rattle.writer.specs.Stored.{storedOf}
