@@ -9,7 +9,7 @@ use lib.Dec.{eqb, ltb, T}
 use lib.ListN.{getD}
 use borrow.Author.Tests.{lt-ltb, ltb-true}
 use Rattle.finite.specs.Tests.{all, some, _⇒_}
-use Rattle.finite.proofs.Tests.{iff, and-l, and-r, and-i, and-true, and-false, all-same, some-same, some-make, some-out, some-or, or-comm, same-test, all-iff, and-iff, imp-iff}
+use Rattle.finite.proofs.Tests.{iff, and-l, and-r, and-i, and-true, and-false, and-swap, imp-same, all-same, some-same, some-make, some-out, some-or, or-comm, same-test, all-iff, and-iff, imp-iff}
 use Rattle.bits.specs.Bit.{bit}
 use Rattle.bits.proofs.Bits.{bit-zero, bit-and, bit-or}
 use Rattle.rows.specs.Sets.{Set, Sets, orderIn, rowIn, setIn, storeIn, lightIn}
@@ -31,12 +31,7 @@ earlier-set {n} {k} {rows} {columns} p b t lp lb h hm hc =
 
 -- of the set
 pub earlier-of-set : (k set : ℕ) {before r : ℕ} (f : ℕ → Bool) → r ≡ bitAnd set before → Set before (λ e. ltb e k && f e) → Set r (λ e. ltb e k && (bit set e && f e))
-earlier-of-set k set f h s = set-same (set-as h (share (as-set {x = set} refl) s)) (λ e. turn (bit set e) (ltb e k) (f e))
-  where
-    turn : (a l b : Bool) → (a && (l && b)) ≡ (l && (a && b))
-    turn true l b = refl
-    turn false true b = refl
-    turn false false b = refl
+earlier-of-set k set f h s = set-same (set-as h (share (as-set {x = set} refl) s)) (λ e. and-swap (bit set e) (ltb e k) (f e))
 
 -- ---- 15
 
@@ -198,10 +193,6 @@ some-swap k those read d g =
     (λ s ls u. some-make k (λ s. those s && (some k λ l. read l s && d l g)) s ls
     (and-i (those s) (some k λ l. read l s && d l g) (and-r (read l s) (those s) u)
     (some-make k (λ l. read l s && d l g) l ll (and-i (read l s) (d l g) (and-l (read l s) (those s) u) (and-r (some k λ s. read l s && those s) (d l g) t)))))))
-
-imp-same : (x : Bool) {y z : Bool} → (x ≡ true → y ≡ z) → (x ⇒ y) ≡ (x ⇒ z)
-imp-same true h = h refl
-imp-same false h = refl
 
 and-same : (x : Bool) {y z : Bool} → (x ≡ true → y ≡ z) → (x && y) ≡ (x && z)
 and-same true h = h refl

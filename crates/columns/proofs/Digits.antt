@@ -11,6 +11,7 @@ use lib.Dec.{eqb}
 use lib.Arith.{digits-div, digits-mod, digits-lt, mod-mul}
 use lib.Pow.{pow-pos, pow-add, pow-mono, pow-lt, shr-shr, shr-lt}
 use Rattle.finite.specs.Tests.{tick}
+use Rattle.finite.proofs.Tests.{tick-one, one-tick}
 use Rattle.bits.specs.Bit.{bit}
 use Rattle.model.specs.Limits.{mostEvents}
 use Rattle.columns.specs.Swaps.{digits, insert, omit}
@@ -19,15 +20,6 @@ use Rattle.columns.specs.Swaps.{digits, insert, omit}
 tick-lt : (b : Bool) → tick b < 2
 tick-lt true = omega arith
 tick-lt false = omega arith
-
-tick-one : (b : Bool) → eqb (tick b) 1 ≡ b
-tick-one true = refl
-tick-one false = refl
-
-one-tick : (x : ℕ) → x < 2 → tick (eqb x 1) ≡ x
-one-tick zero h = refl
-one-tick (suc zero) h = refl
-one-tick (suc (suc x)) h = absurd (omega arith)
 
 other-digit : (x : ℕ) → x < 2 → eqb (1 - x) 1 ≡ not (eqb x 1)
 other-digit zero h = refl

@@ -46,6 +46,11 @@ pub and-comm : (x y : Bool) → (x && y) ≡ (y && x)
 and-comm true y = sym (and-true y)
 and-comm false y = sym (and-false y)
 
+pub and-swap : (x y z : Bool) → (x && (y && z)) ≡ (y && (x && z))
+and-swap true y z = refl
+and-swap false true z = refl
+and-swap false false z = refl
+
 pub imp-e : (x y : Bool) → (x ⇒ y) ≡ true → x ≡ true → y ≡ true
 imp-e true y h e = h
 imp-e false y h e = absurd (false≢true e)
@@ -64,6 +69,11 @@ imp-first x y z h g = ap₂ (λ a b. a ⇒ (b || z)) (sym h) (sym g)
 
 pub imp-second : (x y z : Bool) → x ≡ true → y ≡ false → z ≡ (x ⇒ (y || z))
 imp-second x y z h g = ap₂ (λ a b. a ⇒ (b || z)) (sym h) (sym g)
+
+-- what its second test is counts only where its first passes
+pub imp-same : (x : Bool) {y z : Bool} → (x ≡ true → y ≡ z) → (x ⇒ y) ≡ (x ⇒ z)
+imp-same true h = h refl
+imp-same false h = refl
 
 -- what is not true is false
 pub is-false : {x : Bool} → (x ≡ true → ⊥) → x ≡ false
@@ -277,6 +287,16 @@ count-more n p = rw add-one
 pub tick-le : (b : Bool) → tick b ≤ 1
 tick-le true = omega arith
 tick-le false = omega arith
+
+-- a test as a digit, and a digit as a test
+pub tick-one : (b : Bool) → eqb (tick b) 1 ≡ b
+tick-one true = refl
+tick-one false = refl
+
+pub one-tick : (x : ℕ) → x < 2 → tick (eqb x 1) ≡ x
+one-tick zero h = refl
+one-tick (suc zero) h = refl
+one-tick (suc (suc x)) h = absurd (omega arith)
 
 -- more numbers pass among more
 pub count-mono : (n j : ℕ) (p : ℕ → Bool) → n ≤ j → count n p ≤ count j p

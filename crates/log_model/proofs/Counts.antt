@@ -13,7 +13,7 @@ use lib.Seq.{ext-getD, getD-set-same, getD-set-other}
 use borrow.Author.Tests.{eqb-true, leb-true, lt-ltb, le-ltb, le-leb, lt-leb, eq-eqb, ne-eqb}
 use Rattle.finite.specs.Tests.{tick}
 use Rattle.finite.specs.Lists.{table, every}
-use Rattle.finite.proofs.Tests.{and-l, and-r, and-i, or-e}
+use Rattle.finite.proofs.Tests.{and-l, and-r, and-i, or-e, tick-le}
 use Rattle.finite.proofs.Lists.{one-longer, table-at, table-length, table-same}
 use Rattle.number.specs.Reader.{Out, stop, next}
 use Rattle.model.specs.Case.{Case}
@@ -114,11 +114,7 @@ occurs-append u (x ∷ us) vs = omega (arith, occurs-append u us vs)
 occurs-most : (u : ℕ) (us : List ℕ) → occurs u us ≤ length us
 unfolding occurs
 occurs-most u [] = omega arith
-occurs-most u (x ∷ us) = let h : tick (eqb x u) ≤ 1 = one (eqb x u) in omega (arith, occurs-most u us)
-  where
-    one : (y : Bool) → tick y ≤ 1
-    one true = omega arith
-    one false = omega arith
+occurs-most u (x ∷ us) = omega (arith, tick-le (eqb x u), occurs-most u us)
 
 occurs-last : (u : ℕ) (us : List ℕ) (v : ℕ) → occurs u (us ++ (v ∷ [])) ≡ occurs u us + tick (eqb v u)
 unfolding occurs

@@ -11,7 +11,7 @@ use lib.Bits.{bitAnd, bitOr}
 use borrow.Author.Tests.{eq-eqb, ne-eqb, ltb-true, lt-ltb, ltb-false}
 use Rattle.finite.specs.Tests.{all, some, count, _⇒_}
 use Rattle.finite.specs.Lists.{table}
-use Rattle.finite.proofs.Tests.{iff, and-l, and-r, and-i, or-l, or-r, or-e, is-false, all-get, all-make, all-same, all-swap, all-not, imp-all, imp-and, imp-e, imp-i, some-make, some-none, count-same, and-true, eqb-sym}
+use Rattle.finite.proofs.Tests.{iff, and-l, and-r, and-i, or-l, or-r, or-e, is-false, all-get, all-make, all-same, all-swap, all-not, imp-all, imp-and, imp-same, imp-e, imp-i, some-make, some-none, count-same, and-true, eqb-sym}
 use Rattle.bits.specs.Bit.{bit}
 use Rattle.model.specs.Rules.{first}
 use Rattle.rows.specs.Sets.{Set}
@@ -193,14 +193,10 @@ module _ (k set a : ℕ) (i : ℕ) (f : ℕ → ℕ) where
     within = omega arith;
     same =
         all-same k (λ b. bit set b ⇒ first a b (table (j + 1) (i - (j + 1)) f)) (λ b. bit set b ⇒ first a b (table j (i - j) f))
-        (λ b lb. under (bit set b) (λ s. sym (ap (first a b) (one-more j l) ∙ first-cons a b (f j) (rest j)
+        (λ b lb. imp-same (bit set b) (λ s. sym (ap (first a b) (one-more j l) ∙ first-cons a b (f j) (rest j)
         ∙ ap₂ (λ s u. pick s u (first a b (rest j))) (ne-eqb (f j) a h) (ne-eqb (f j) b (λ e. true≢false (sym s ∙ ap (bit set) (sym e) ∙ t))))))
         ∙ w .same;
   }
-    where
-      under : (x : Bool) {y z : Bool} → (x ≡ true → y ≡ z) → (x ⇒ y) ≡ (x ⇒ z)
-      under true g = g refl
-      under false g = refl
 
   pub at-end : {j : ℕ} {x : Bool} → Walked j → i ≤ j → x ≡ some k (bit set) → not x ≡ all k (λ b. bit set b ⇒ first a b (table 0 i f))
   unfolding ahead first table

@@ -6,7 +6,7 @@ use mathlib.Core.Path.{_≡_, refl, sym, ap, ap₂, _∙_, subst}
 use mathlib.Core.Bool.{Bool, true, false, not, _&&_, _||_, true≢false}
 use native.Mathlib.Nat.{mod-lt}
 use borrow.Author.Tests.{eqb-true, eq-eqb, ltb-true, lt-ltb}
-use Rattle.finite.proofs.Tests.{iff, and-l, and-r, and-i, or-l, or-r, or-e, is-false, some-none, some-same, some-make, some-out, all-make, all-same, all-swap, imp-and, imp-all, imp-i}
+use Rattle.finite.proofs.Tests.{iff, and-l, and-r, and-i, and-swap, or-l, or-r, or-e, is-false, some-none, some-same, some-make, some-out, all-make, all-same, all-swap, imp-and, imp-all, imp-i}
 use lib.Dec.{eqb, ltb}
 use lib.Bits.{bitAnd, bitOr, bitXor, differ, xor-step, xor-shr}
 use lib.Arith.{digits-mod}
@@ -272,12 +272,7 @@ some-set k {x} {f} s = some-same k (bit x) f (λ i l. s .has i)
 
 -- the events of a set below k that pass a test, by what the set holds
 pub of-set : (k : ℕ) {x r : ℕ} {f : ℕ → Bool} (g : ℕ → Bool) → Set x f → Set r (λ e. ltb e k && (bit x e && g e)) → Set r (λ e. f e && (ltb e k && g e))
-of-set k {x} {r} {f} g s t = set-same t (λ e. ap (λ b. ltb e k && (b && g e)) (s .has e) ∙ turn (ltb e k) (f e) (g e))
-  where
-    turn : (l a b : Bool) → (l && (a && b)) ≡ (a && (l && b))
-    turn true a b = refl
-    turn false true b = refl
-    turn false false b = refl
+of-set k {x} {r} {f} g s t = set-same t (λ e. ap (λ b. ltb e k && (b && g e)) (s .has e) ∙ and-swap (ltb e k) (f e) (g e))
 
 -- an exception, of what is asked about anyway
 pub but-own : (o x q : Bool) → (o ⇒ ((o && x) || q)) ≡ ((o && not q) ⇒ x)

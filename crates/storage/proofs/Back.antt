@@ -3,11 +3,12 @@
 use Prim.Native.Nat.{ℕ, _+_, _*_, _<_}
 use native.Mathlib.Omega.{arith}
 use mathlib.Core.Path.{_≡_, refl, sym, ap, _∙_, subst}
-use mathlib.Core.Bool.{Bool, true, false}
+use mathlib.Core.Bool.{true, false}
 use mathlib.Core.List.{List, [], map}
 use lib.Dec.{eqb}
 use lib.ListN.{length, getD, length-map, List·getD-map}
 use Rattle.finite.specs.Tests.{tick}
+use Rattle.finite.proofs.Tests.{tick-one}
 use Rattle.model.specs.Limits.{mostThreads, mostAddresses}
 use Rattle.storage_model.specs.Limits.{mostWrites, mostBarriers, mostListed}
 use Rattle.storage_model.specs.Subsystem.{State, Event, write, noWrite, noBarrier, member, events, coherent, writesSeen, barriersSeen}
@@ -50,11 +51,7 @@ module _ (s : State) (S : Sound s) (W : Within s) where
   unfolding stateOf held
   marks-back =
       back (s .unacknowledged) false (barriersSeen s) _ (S .syncs .as-many)
-      (λ b h. ap (λ (x : ℕ). eqb x 1) (in-fields mostBarriers tick false (s .unacknowledged) b (rw (S .syncs .as-many) h)) ∙ mark (getD (s .unacknowledged) b false))
-    where
-      mark : (t : Bool) → eqb (tick t) 1 ≡ t
-      mark true = refl
-      mark false = refl
+      (λ b h. ap (λ (x : ℕ). eqb x 1) (in-fields mostBarriers tick false (s .unacknowledged) b (rw (S .syncs .as-many) h)) ∙ tick-one (getD (s .unacknowledged) b false))
 
   edge-back : (a b : ℕ) → a < writesSeen s → b < writesSeen s → edgeIn (held s .before) a b ≡ coherent s a b
   unfolding held coherent

@@ -9,7 +9,7 @@ use lib.ListN.{getD}
 use lib.Dec.{eqb, ltb, T}
 use borrow.Author.Tests.{lt-ltb}
 use Rattle.finite.specs.Tests.{all, some, _⇒_}
-use Rattle.finite.proofs.Tests.{all-same, all-swap, and-true, imp-all, imp-and, some-same, same-test, all-iff, and-iff, imp-iff}
+use Rattle.finite.proofs.Tests.{all-same, all-swap, and-true, and-false, and-comm, imp-all, imp-and, some-same, same-test, all-iff, and-iff, imp-iff}
 use Rattle.bits.proofs.Bits.{bit-zero}
 use Rattle.rows.proofs.SetLaws.{but-own, set-same, set-as, share, as-set, union-inside, some-imp}
 use Rattle.bits.specs.Bit.{bit}
@@ -47,18 +47,8 @@ module _ (t x e b : Bool) (h : t ≡ true) where
       or-none false = sym f
 
 all-four : (f n s x : Bool) → (f && x && s && n) ≡ (f && n && s && x)
-all-four true true s x = and-four-on s x
-  where
-    and-four-on : (s x : Bool) → (x && s && true) ≡ (s && x)
-    and-four-on true true = refl
-    and-four-on true false = refl
-    and-four-on false true = refl
-    and-four-on false false = refl
-all-four true false s x = none (x && s)
-  where
-    none : (y : Bool) → (y && false) ≡ false
-    none true = refl
-    none false = refl
+all-four true true s x = and-true (x && s) ∙ and-comm x s
+all-four true false s x = and-false (x && s)
 all-four false n s x = refl
 
 pub by-sets : (k : ℕ) (seen : ℕ → Bool) (storeFor equal asked : ℕ → ℕ → Bool) (l : ℕ) {those between : ℕ}
@@ -164,14 +154,10 @@ module _ (k : ℕ) (isLoad : ℕ → Bool) (storeFor : ℕ → ℕ → Bool) (th
   pub no-load : isLoad l ≡ false → Set 0 (λ s. ltb s k && mustRead k isLoad storeFor thread known asked l s)
   unfolding mustRead
   no-load h = record {
-    has = λ e. bit-zero e ∙ sym (none (ltb e k))
+    has = λ e. bit-zero e ∙ sym (and-false (ltb e k))
         ∙ ap (λ u. ltb e k && (u && storeFor l e && known (thread l) e l && rest e)) (sym h);
   }
     where
-      none : (y : Bool) → (y && false) ≡ false
-      none true = refl
-      none false = refl
-
       rest : ℕ → Bool
       rest e = all k λ x. (storeFor l x && not (eqb x e) && asked (thread l) x l) ⇒ known (thread l) x e
 
