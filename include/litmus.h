@@ -110,7 +110,6 @@ enum {
  *            21  a condition's text is outside the grammar
  *            22  a condition's text is nested too deep
  *            23  a byte of the name is not printable (32 to 126)
- *            31  of a trace: a step is not enabled where it stands
  *          A sync orders any two events; an lwsync orders loads and stores, but not a store
  *          before a load.
  *          Where several rules are broken, the lowest is given.
@@ -455,7 +454,7 @@ typedef struct {
  *                                             in the thread's list, or else the initial value
  *               LITMUS_ACKNOWLEDGE         1  the barrier is a sync that has not been acknowledged
  *                                          2  it has been propagated to every thread
- *            LITMUS_ACCEPT_WRITE and LITMUS_ACCEPT_BARRIER are always enabled; otherwise 0
+ *            LITMUS_ACCEPT_WRITE and LITMUS_ACCEPT_BARRIER have none. Otherwise 0
  * place      under 1 to 3, the byte where the faulty number starts; otherwise 0
  * step       under 31, the first step that is not enabled, counted from 0; otherwise 0
  * length     under 0, how many bytes the trace takes; otherwise 0

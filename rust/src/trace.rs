@@ -1,4 +1,5 @@
-//! Traces of the storage subsystem: runs, step by step, of what lies between threads and memory.
+//! Traces of the storage subsystem, which propagates writes and barriers to threads: its runs, step by
+//! step.
 
 mod state;
 mod step;
@@ -14,7 +15,7 @@ const NOT_ENABLED: u32 = 31;
 
 /// A state of the storage subsystem, as `litmus_storage` of `litmus.h`. What stands in an array
 /// beyond its count is 0. Its words are lines about coherence, what has been propagated to each
-/// thread, and the syncs that wait.
+/// thread, and the syncs that are not acknowledged.
 #[repr(C)]
 #[derive(Clone, Copy, Debug, PartialEq, Eq)]
 pub struct Storage {

@@ -150,7 +150,7 @@ fn has<'a>(
     bits::has(arrived(listed, events, t), x)
 }
 
-// Whether the event x is in the lists of the first threads.
+// Whether the event x is in the list of every thread below the count.
 pub fn everywhere<'a>(
     listed: &'a [usize; Case::MOST_THREADS],
     events: &'a [u8; Case::MOST_THREADS * Storage::MOST_LISTED],

@@ -98,7 +98,7 @@ emptyStorage = record {
   events = replicate (mostThreads * mostListed) 0;
 }
 
--- the struct holds a state that steps can lead to
+-- the struct holds a state that is sound and keeps the limits, with zeros beyond the counts
 pub record Good (c : Held) : Type 0 where
   pub same : c ≡ held (stateOf c)
   pub sound : Sound (stateOf c)

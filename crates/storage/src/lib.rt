@@ -3,7 +3,7 @@ ghost use mathlib.Core.Path.{_≡_};
 ghost use Rattle.storage.specs.Held.{emptyStorage};
 use case::Case;
 
-// Its fields and their order are those of litmus_storage in include/litmus.h.
+// Its fields and their order are those of litmus_storage in include/litmus.h, where class is barrier_class.
 #[repr(C)]
 pub struct Storage {
     // how many threads and addresses

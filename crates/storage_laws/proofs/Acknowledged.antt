@@ -16,7 +16,7 @@ use Rattle.storage_model.specs.Sound.{Sound}
 use Rattle.storage_model.specs.Runs.{Enabled}
 use Rattle.storage_laws.proofs.Run.{accepted-iff}
 
--- a sync that has not been acknowledged is asked for
+-- acknowledging is enabled only for a sync that has not been acknowledged
 asks : (s : State) (b : ℕ) → enabled s (acknowledge b) ≡ true → unacknowledgedSync s b ≡ true
 unfolding enabled
 asks s b h = and-l (unacknowledgedSync s b) (everywhere s b) h
@@ -50,7 +50,7 @@ acknowledged-step s b (acknowledge c) A = record { seen = rw length-set (A .seen
         ∙ getD-set-same (s .unacknowledged) c false false (subst (λ (i : ℕ). i < length (s .unacknowledged)) e (A .seen))
     by (no d) = getD-set-other (s .unacknowledged) c b false false d ∙ A .done
 
--- a step that acknowledges b was enabled
+-- after an enabled step that acknowledges b
 acknowledges : (s : State) (b : ℕ) → enabled s (acknowledge b) ≡ true → Acknowledged (effect s (acknowledge b)) b
 unfolding effect unacknowledgedSync
 acknowledges s b h = by (decLt b (length (s .unacknowledged)))

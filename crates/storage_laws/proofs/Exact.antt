@@ -19,7 +19,7 @@ use Rattle.model.specs.Limits.{mostThreads, mostAddresses, mostValue}
 use Rattle.codec.proofs.Exact.{Took, Malformed, Tells, Exact, As, exact-bind, exact-last, exact-unless, exact-up-to, exact-within, exact-below, exact-under, Along, grown, exact-list, exact-times}
 use Rattle.storage_model.specs.Limits.{mostKind, mostSteps, mostWrites, mostBarriers}
 use Rattle.storage_model.specs.Trace.{Trace, Step, lwsync, writesIn, barriersIn}
-use Rattle.storage_model.specs.Layout.{acceptWriteFields, acceptBarrierFields, propagateWriteFields, propagateBarrierFields, commitFields, respondFields, acknowledgeFields, fields, roomFor, step, trace, readTrace}
+use Rattle.storage_model.specs.Layout.{acceptWriteFields, acceptBarrierFields, propagateWriteFields, propagateBarrierFields, commitFields, respondFields, acknowledgeFields, fields, roomFor, step, listing, trace, readTrace}
 use Rattle.storage_model.specs.Written.{stepBytes, traceBytes}
 use Rattle.storage_model.specs.Fits.{StepFits, StepsFit, Fits}
 use Rattle.storage_laws.proofs.ReadBack.{read-back}
@@ -100,7 +100,7 @@ along-fits n m before (x ∷ xs) h = (h .0, along-fits n m (before ++ (x ∷ [])
 
 -- what the reader reads is a trace that fits, and the bytes are its own
 pub exact-trace : Exact Malformed trace (As traceBytes Fits)
-unfolding trace traceBytes
+unfolding trace listing traceBytes
 exact-trace =
     exact-bind (exact-within told 1 mostThreads) (λ n hn.
     exact-bind (exact-within told 1 mostAddresses) (λ m hm.

@@ -17,7 +17,7 @@ use Rattle.model.specs.Limits.{mostThreads, mostAddresses, mostValue}
 use Rattle.codec.proofs.ReadsAs.{ReadsAs, reads-bind, reads-last, reads-unless, reads-up-to, reads-within, reads-below, reads-under, Steps, reads-turns, reads-times}
 use Rattle.storage_model.specs.Limits.{mostKind, mostSteps, mostWrites, mostBarriers}
 use Rattle.storage_model.specs.Trace.{Trace, Step, acceptWrite, acceptBarrier, propagateWrite, propagateBarrier, commit, respond, acknowledge, lwsync, writesIn, barriersIn}
-use Rattle.storage_model.specs.Layout.{acceptWriteFields, acceptBarrierFields, propagateWriteFields, propagateBarrierFields, commitFields, respondFields, acknowledgeFields, fields, roomFor, step, trace, readTrace}
+use Rattle.storage_model.specs.Layout.{acceptWriteFields, acceptBarrierFields, propagateWriteFields, propagateBarrierFields, commitFields, respondFields, acknowledgeFields, fields, roomFor, step, listing, trace, readTrace}
 use Rattle.storage_model.specs.Written.{stepBytes, traceBytes}
 use Rattle.storage_model.specs.Fits.{StepFits, StepsFit, Fits}
 use Rattle.storage_laws.proofs.Counts.{FewEvents, few-none, few-grown}
@@ -59,7 +59,7 @@ steps-read n m hn hm before (x ∷ xs) l F = (
 
 -- its reader reads a trace's bytes as the trace
 pub reads-trace : (t : Trace) → Fits t → ReadsAs trace (traceBytes t) t
-unfolding trace traceBytes
+unfolding trace listing traceBytes
 reads-trace t F =
     let initials : ReadsAs (times (t .m) (upTo mostValue)) (each encode (t .initials)) (t .initials) =
     rw (F .m) (reads-times (upTo mostValue) encode (t .initials) (all-map _ _ (λ v l. reads-up-to mostValue v l (lit< tt)) (t .initials) (F .initials))) in

@@ -10,7 +10,7 @@ use Rattle.number.specs.Reader.{stop, _>>=_, times}
 use Rattle.number.specs.declared.NumberRead.the-variants as the
 use Rattle.number.proofs.Forms.{WrongForm}
 use Rattle.codec.proofs.Steady.{Stays, Steady, steady-bind, steady-last, steady-unless, steady-up-to, steady-within, steady-below, steady-under, steady-turns, steady-if}
-use Rattle.storage_model.specs.Layout.{acceptWriteFields, acceptBarrierFields, propagateWriteFields, propagateBarrierFields, commitFields, respondFields, acknowledgeFields, fields, roomFor, step, trace, readTrace}
+use Rattle.storage_model.specs.Layout.{acceptWriteFields, acceptBarrierFields, propagateWriteFields, propagateBarrierFields, commitFields, respondFields, acknowledgeFields, fields, roomFor, step, listing, trace, readTrace}
 
 steady-step : (n m w b : ℕ) → Steady (step n m w b)
 unfolding step fields acceptWriteFields acceptBarrierFields propagateWriteFields propagateBarrierFields commitFields respondFields acknowledgeFields
@@ -25,7 +25,7 @@ steady-step n m w b =
     (steady-last _ (steady-under b))))))))
 
 steady-trace : Steady trace
-unfolding trace times
+unfolding trace listing times
 steady-trace =
     steady-bind (steady-within _ _) (λ n.
     steady-bind (steady-within _ _) (λ m.

@@ -108,7 +108,7 @@ module _ (s : State) (S : Sound s) where
     unfolding arrived
     arrived-low y h = S .lists t .writes y h
 
-    -- what leads nowhere but to the new write
+    -- an old edge, or one from a write seen before to the new one
     abbrev Old : ℕ → ℕ → Type 0
     Old y z = (coherent s y z ≡ true) ⊎ ((y < writesSeen s) × (z ≡ writesSeen s))
 

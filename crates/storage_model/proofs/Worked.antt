@@ -11,7 +11,7 @@ use Rattle.number.specs.Reader.{unless, turns, times, upTo, within, below, unde
 use Rattle.storage_model.specs.Trace.{Step, acceptWrite, acceptBarrier, propagateWrite, propagateBarrier, commit, acknowledge, writesIn, barriersIn}
 use Rattle.storage_model.specs.Relation.{relation, related, reached, closure, irreflexive, acyclic}
 use Rattle.storage_model.specs.Subsystem.{State, Ran, accepted, write, barrier, same, member, precedes, writer, address, value, owner, class, events, arrived, coherent, groupA, separated, latest, writeIsNew, writeIsAfter, barriersWentBefore, barrierIsNew, groupAWentBefore, committed, toOneAddress, unrelated, respondsLatest, acyclicWith, unacknowledgedSync, everywhere, enabled, failing, followed, effect, initial, runFrom, run}
-use Rattle.storage_model.specs.Layout.{acceptWriteFields, acceptBarrierFields, propagateWriteFields, propagateBarrierFields, commitFields, respondFields, acknowledgeFields, fields, roomFor, step, trace, readTrace}
+use Rattle.storage_model.specs.Layout.{acceptWriteFields, acceptBarrierFields, propagateWriteFields, propagateBarrierFields, commitFields, respondFields, acknowledgeFields, fields, roomFor, step, listing, trace, readTrace}
 use Rattle.storage_model.specs.Written.{stepBytes, traceBytes}
 use Rattle.storage_model.specs.Answers.{judgeTrace}
 use Rattle.storage_model.specs.Worked.{says, holds, simpleCases, coherenceCases, conditionCases, layoutCases, repeated, worked, traces}
@@ -21,7 +21,7 @@ unfolding all some table each every after readGroups finish readNumber encodeBy 
     writesIn barriersIn relation related reached closure irreflexive acyclic same member precedes writer address value owner class events
     arrived coherent groupA separated latest writeIsNew writeIsAfter barriersWentBefore barrierIsNew groupAWentBefore committed toOneAddress unrelated respondsLatest
     acyclicWith unacknowledgedSync everywhere enabled failing followed effect initial runFrom run acceptWriteFields acceptBarrierFields
-    propagateWriteFields propagateBarrierFields commitFields respondFields acknowledgeFields fields roomFor step trace readTrace stepBytes
+    propagateWriteFields propagateBarrierFields commitFields respondFields acknowledgeFields fields roomFor step listing trace readTrace stepBytes
     traceBytes judgeTrace says holds simpleCases coherenceCases conditionCases layoutCases repeated worked
 worked-traces = tt
 

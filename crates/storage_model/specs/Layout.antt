@@ -80,14 +80,19 @@ step n m w b = do
 abbrev pub nextStep : (n m : ℕ) → List Step → Reader (List Step)
 nextStep n m before = another (step n m (writesIn before) (barriersIn before)) before
 
-unfoldable pub trace : Reader Trace
-trace = do
-  n ← within 1 mostThreads
-  m ← within 1 mostAddresses
+-- what follows n and m
+unfoldable pub listing : (n m : ℕ) → Reader Trace
+listing n m = do
   initials ← times m (upTo mostValue)
   i ← upTo mostSteps
   steps ← turns i (nextStep n m) []
   give (record { n = n; m = m; initials = initials; steps = steps })
+
+unfoldable pub trace : Reader Trace
+trace = do
+  n ← within 1 mostThreads
+  m ← within 1 mostAddresses
+  listing n m
 
 -- the trace and its length in bytes, or the refusal and its place
 unfoldable pub readTrace : List ℕ → Out Trace

@@ -1,6 +1,6 @@
 -- The storage subsystem: source document 002, sections 4.2 (states) and 4.3 (transitions), which decide. 02 (ii) calls it the storage machine.
--- The initial writes are not numbered: each has been propagated to all threads before any step and no edge leads to one, so no
--- condition fails by them; a read response takes the initial value where no other write has been propagated.
+-- The initial writes are not numbered: each has been propagated to all threads before any step and comes before every other write to its
+-- address, so no condition fails by them; a read response takes the initial value where no other write has been propagated.
 -- Assumes nothing.
 use Prim.Native.Nat.{ℕ, zero, suc, _+_}
 use mathlib.Core.Bool.{Bool, true, false, not, cond, _&&_, _||_}
@@ -61,7 +61,7 @@ unfoldable pub precedes : Event → Event → List Event → Bool
 precedes e f [] = false
 precedes e f (x ∷ l) = (same e x && member f l) || precedes e f l
 
--- ---- a state's parts, and what stands past the last write and barrier: labels that every permutation leaves
+-- ---- a state's parts; past the last write and barrier stand labels that no thread and no address has
 
 abbrev pub noWrite : Write
 noWrite = record { thread = mostThreads; address = mostAddresses; value = 0 }
@@ -199,6 +199,18 @@ failing s (acknowledge b) = orElse (unacknowledgedSync s b) 1 (orElse (everywher
 abbrev pub appended : List (List Event) → (t : ℕ) → Event → List (List Event)
 appended ls t e = set ls t (getD ls t [] ++ (e ∷ []))
 
+-- the effect of both kinds of propagation
+abbrev pub withEvent : State → (t : ℕ) → Event → State
+withEvent s t e = record {
+  threads = s .threads;
+  initials = s .initials;
+  writes = s .writes;
+  coherence = s .coherence;
+  barriers = s .barriers;
+  propagated = appended (s .propagated) t e;
+  unacknowledged = s .unacknowledged;
+}
+
 -- "note that the new write is coherence-after all writes (to the same address) that have previously propagated to this thread"; 02 (ii):
 -- "Kinds 1 and 5 close coherence by transitivity"
 unfoldable pub followed : State → (t a : ℕ) → Relation
@@ -227,25 +239,9 @@ effect s (acceptBarrier t c) = record {
   unacknowledged = s .unacknowledged ++ (eqb c sync ∷ []);
 }
 -- "append w to s.events_propagated_to(tid')"
-effect s (propagateWrite w t) = record {
-  threads = s .threads;
-  initials = s .initials;
-  writes = s .writes;
-  coherence = s .coherence;
-  barriers = s .barriers;
-  propagated = appended (s .propagated) t (write w);
-  unacknowledged = s .unacknowledged;
-}
+effect s (propagateWrite w t) = withEvent s t (write w)
 -- "append the barrier to s.events_propagated_to(tid)"
-effect s (propagateBarrier b t) = record {
-  threads = s .threads;
-  initials = s .initials;
-  writes = s .writes;
-  coherence = s .coherence;
-  barriers = s .barriers;
-  propagated = appended (s .propagated) t (barrier b);
-  unacknowledged = s .unacknowledged;
-}
+effect s (propagateBarrier b t) = withEvent s t (barrier b)
 -- "Add the new edges to s.coherence."
 effect s (commit x y) = record {
   threads = s .threads;

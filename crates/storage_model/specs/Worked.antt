@@ -15,7 +15,7 @@ pub data Row : Type 0 where
   accepts : (n m : ℕ) (initials : List ℕ) (steps : List Step) → Row
   -- step at is the first that is not enabled, and the first of its conditions that fails
   refuses : (at condition n m : ℕ) (initials : List ℕ) (steps : List Step) → Row
-  -- the bytes, and what reading them answers
+  -- the bytes, and what judging them answers; no step is refused
   reads : (number place length : ℕ) (bytes : List ℕ) → Row
 
 -- the answer but for its end state
@@ -68,7 +68,7 @@ simpleCases =
     accepts 4 2 (0 ∷ 0 ∷ []) (acceptWrite 0 0 1 ∷ acceptWrite 2 1 1 ∷ propagateWrite 0 1 ∷ respond 1 0 1 ∷ respond 1 1 0 ∷ propagateWrite 1 3 ∷ respond 3 1 1 ∷ respond 3 0 0 ∷ []) ∷
     -- IRIW+lwsyncs
     accepts 4 2 (0 ∷ 0 ∷ []) (acceptWrite 0 0 1 ∷ acceptWrite 2 1 1 ∷ propagateWrite 0 1 ∷ respond 1 0 1 ∷ acceptBarrier 1 1 ∷ respond 1 1 0 ∷ propagateWrite 1 3 ∷ respond 3 1 1 ∷ acceptBarrier 3 1 ∷ respond 3 0 0 ∷ []) ∷
-    -- IRIW+syncs: the second sync is acknowledged where its thread reads 1
+    -- IRIW+syncs: the first sync is acknowledged once write 0 is at every thread, so that thread 3 reads 1
     accepts 4 2 (0 ∷ 0 ∷ []) (acceptWrite 0 0 1 ∷ acceptWrite 2 1 1 ∷ propagateWrite 0 1 ∷ respond 1 0 1 ∷ acceptBarrier 1 0 ∷ propagateWrite 0 3 ∷ propagateBarrier 0 3 ∷ propagateWrite 0 2 ∷ propagateBarrier 0 2 ∷ propagateBarrier 0 0 ∷ acknowledge 0 ∷ respond 1 1 0 ∷ propagateWrite 1 3 ∷ respond 3 1 1 ∷ acceptBarrier 3 0 ∷ propagateWrite 1 0 ∷ propagateBarrier 1 0 ∷ propagateWrite 1 1 ∷ propagateBarrier 1 1 ∷ propagateBarrier 1 2 ∷ acknowledge 1 ∷ respond 3 0 1 ∷ []) ∷
     -- and not 0
     refuses 21 1 4 2 (0 ∷ 0 ∷ []) (acceptWrite 0 0 1 ∷ acceptWrite 2 1 1 ∷ propagateWrite 0 1 ∷ respond 1 0 1 ∷ acceptBarrier 1 0 ∷ propagateWrite 0 3 ∷ propagateBarrier 0 3 ∷ propagateWrite 0 2 ∷ propagateBarrier 0 2 ∷ propagateBarrier 0 0 ∷ acknowledge 0 ∷ respond 1 1 0 ∷ propagateWrite 1 3 ∷ respond 3 1 1 ∷ acceptBarrier 3 0 ∷ propagateWrite 1 0 ∷ propagateBarrier 1 0 ∷ propagateWrite 1 1 ∷ propagateBarrier 1 1 ∷ propagateBarrier 1 2 ∷ acknowledge 1 ∷ respond 3 0 0 ∷ []) ∷
@@ -85,7 +85,7 @@ coherenceCases =
     accepts 2 1 (0 ∷ []) (acceptWrite 0 0 1 ∷ acceptWrite 0 0 2 ∷ propagateWrite 0 1 ∷ respond 1 0 1 ∷ propagateWrite 1 1 ∷ respond 1 0 2 ∷ []) ∷
     -- CoWW: against program order
     refuses 2 2 1 1 (0 ∷ []) (acceptWrite 0 0 1 ∷ acceptWrite 0 0 2 ∷ commit 1 0 ∷ []) ∷
-    -- CoWR: a write that is hidden by the own one
+    -- CoWR: a write that is coherence-before the thread's own one
     refuses 3 2 2 1 (0 ∷ []) (acceptWrite 0 0 1 ∷ acceptWrite 1 0 2 ∷ commit 1 0 ∷ propagateWrite 1 0 ∷ respond 0 0 2 ∷ []) ∷
     -- where it comes after the own one
     accepts 2 1 (0 ∷ []) (acceptWrite 0 0 1 ∷ acceptWrite 1 0 2 ∷ commit 0 1 ∷ propagateWrite 1 0 ∷ respond 0 0 2 ∷ []) ∷
@@ -118,15 +118,18 @@ conditionCases =
     accepts 2 2 (0 ∷ 0 ∷ []) (acceptWrite 0 0 1 ∷ acceptWrite 1 1 2 ∷ propagateWrite 0 1 ∷ []) ∷
     -- every one that is there counts, the last and others
     accepts 3 1 (0 ∷ []) (acceptWrite 0 0 1 ∷ acceptWrite 1 0 2 ∷ acceptWrite 2 0 3 ∷ commit 0 1 ∷ propagateWrite 1 0 ∷ commit 1 2 ∷ propagateWrite 2 0 ∷ []) ∷
-    -- (the second committed after the third only: not after the first)
+    -- after one of them is not enough: write 2 comes after write 0, and not after write 1
     refuses 6 2 3 1 (0 ∷ []) (acceptWrite 0 0 1 ∷ acceptWrite 1 0 2 ∷ acceptWrite 2 0 3 ∷ commit 0 1 ∷ propagateWrite 1 0 ∷ commit 0 2 ∷ propagateWrite 2 0 ∷ []) ∷
     -- 3: a barrier before it in the list of its own thread is not there
     refuses 2 3 2 1 (0 ∷ []) (acceptBarrier 0 1 ∷ acceptWrite 0 0 1 ∷ propagateWrite 0 1 ∷ []) ∷
     -- 2 and 3 fail: the first of the two
     refuses 3 2 2 1 (0 ∷ []) (acceptBarrier 0 1 ∷ acceptWrite 0 0 1 ∷ acceptWrite 1 0 2 ∷ propagateWrite 0 1 ∷ []) ∷
+    -- of two barriers before it one is not there
+    refuses 4 3 2 1 (0 ∷ []) (acceptBarrier 0 1 ∷ acceptBarrier 0 1 ∷ acceptWrite 0 0 1 ∷ propagateBarrier 0 1 ∷ propagateWrite 0 1 ∷ []) ∷
+    refuses 4 3 2 1 (0 ∷ []) (acceptBarrier 0 1 ∷ acceptBarrier 0 1 ∷ acceptWrite 0 0 1 ∷ propagateBarrier 1 1 ∷ propagateWrite 0 1 ∷ []) ∷
     -- a barrier behind it does not matter
     accepts 2 1 (0 ∷ []) (acceptWrite 0 0 1 ∷ acceptBarrier 0 1 ∷ propagateWrite 0 1 ∷ []) ∷
-    -- nor one in the list of the other thread, which is of its own
+    -- nor one of the thread to which the write goes
     accepts 3 1 (0 ∷ []) (acceptBarrier 1 1 ∷ acceptWrite 0 0 1 ∷ propagateWrite 0 1 ∷ []) ∷
     -- a barrier of another thread that arrived before the write counts
     refuses 3 3 3 1 (0 ∷ []) (acceptBarrier 0 1 ∷ propagateBarrier 0 1 ∷ acceptWrite 1 0 1 ∷ propagateWrite 0 2 ∷ []) ∷
@@ -150,6 +153,9 @@ conditionCases =
     refuses 4 2 2 1 (0 ∷ []) (acceptWrite 0 0 1 ∷ acceptBarrier 0 1 ∷ acceptWrite 1 0 2 ∷ commit 1 0 ∷ propagateBarrier 0 1 ∷ []) ∷
     -- of two writes one is not there
     refuses 4 2 2 2 (0 ∷ 0 ∷ []) (acceptWrite 0 0 1 ∷ acceptWrite 0 1 1 ∷ acceptBarrier 0 1 ∷ propagateWrite 0 1 ∷ propagateBarrier 0 1 ∷ []) ∷
+    refuses 4 2 2 2 (0 ∷ 0 ∷ []) (acceptWrite 0 0 1 ∷ acceptWrite 0 1 1 ∷ acceptBarrier 0 1 ∷ propagateWrite 1 1 ∷ propagateBarrier 0 1 ∷ []) ∷
+    -- a barrier before a barrier does not matter
+    accepts 2 1 (0 ∷ []) (acceptBarrier 0 1 ∷ acceptBarrier 0 1 ∷ propagateBarrier 1 1 ∷ []) ∷
     -- commit: two addresses
     refuses 2 1 2 2 (0 ∷ 0 ∷ []) (acceptWrite 0 0 1 ∷ acceptWrite 1 1 2 ∷ commit 0 1 ∷ []) ∷
     -- two addresses, and a cycle: the first of the two
@@ -162,11 +168,11 @@ conditionCases =
     refuses 3 2 2 1 (0 ∷ []) (acceptWrite 0 0 1 ∷ acceptWrite 1 0 2 ∷ commit 0 1 ∷ commit 1 0 ∷ []) ∷
     -- kind 5 closes by transitivity: through the edge on both sides
     refuses 7 2 4 1 (0 ∷ []) (acceptWrite 0 0 1 ∷ acceptWrite 1 0 2 ∷ acceptWrite 2 0 3 ∷ acceptWrite 3 0 4 ∷ commit 0 1 ∷ commit 2 3 ∷ commit 1 2 ∷ commit 0 3 ∷ []) ∷
-    -- so that a write goes behind all of them
+    -- so that the last of them may go to the thread of the first
     accepts 4 1 (0 ∷ []) (acceptWrite 0 0 1 ∷ acceptWrite 1 0 2 ∷ acceptWrite 2 0 3 ∷ acceptWrite 3 0 4 ∷ commit 0 1 ∷ commit 2 3 ∷ commit 1 2 ∷ propagateWrite 3 0 ∷ []) ∷
     -- kind 1 closes by transitivity: a write comes after those before the ones in the list of its thread
     refuses 5 2 3 1 (0 ∷ []) (acceptWrite 0 0 1 ∷ acceptWrite 1 0 2 ∷ commit 0 1 ∷ propagateWrite 1 2 ∷ acceptWrite 2 0 3 ∷ commit 0 2 ∷ []) ∷
-    -- and its own thread's later ones are after all of them
+    -- so that it may go to a thread that has such a write
     accepts 3 1 (0 ∷ []) (acceptWrite 0 0 1 ∷ acceptWrite 1 0 2 ∷ commit 0 1 ∷ propagateWrite 1 2 ∷ acceptWrite 2 0 3 ∷ propagateWrite 2 0 ∷ []) ∷
     -- no cycle: a write by another thread before the barrier, in the list of the second write's thread
     refuses 8 3 3 2 (0 ∷ 0 ∷ []) (acceptWrite 0 0 1 ∷ propagateWrite 0 1 ∷ acceptBarrier 1 1 ∷ acceptWrite 1 1 2 ∷ acceptWrite 2 1 1 ∷ acceptBarrier 2 1 ∷ acceptWrite 2 0 2 ∷ commit 3 0 ∷ commit 1 2 ∷ []) ∷
@@ -177,7 +183,7 @@ conditionCases =
     -- nor one behind both
     accepts 2 2 (0 ∷ 0 ∷ []) (acceptWrite 0 0 1 ∷ acceptWrite 0 1 2 ∷ acceptBarrier 0 1 ∷ acceptWrite 1 1 1 ∷ acceptWrite 1 0 2 ∷ acceptBarrier 1 1 ∷ commit 3 0 ∷ commit 1 2 ∷ []) ∷
     -- nor one that separates them in the list of another thread than the second write's
-    accepts 3 2 (0 ∷ 0 ∷ []) (acceptWrite 0 0 1 ∷ acceptWrite 0 1 2 ∷ acceptBarrier 2 1 ∷ propagateWrite 0 2 ∷ acceptWrite 1 1 1 ∷ acceptWrite 1 0 2 ∷ commit 3 0 ∷ commit 1 2 ∷ []) ∷
+    accepts 3 2 (0 ∷ 0 ∷ []) (acceptWrite 0 0 1 ∷ acceptWrite 0 1 2 ∷ propagateWrite 0 2 ∷ acceptBarrier 2 1 ∷ propagateWrite 1 2 ∷ acceptWrite 1 1 1 ∷ acceptBarrier 1 1 ∷ acceptWrite 1 0 2 ∷ commit 3 0 ∷ commit 1 2 ∷ []) ∷
     -- read response: the initial value
     accepts 2 2 (5 ∷ 7 ∷ []) (respond 1 1 7 ∷ []) ∷
     -- another value
@@ -200,6 +206,8 @@ conditionCases =
     refuses 2 2 3 1 (0 ∷ []) (acceptBarrier 0 0 ∷ propagateBarrier 0 1 ∷ acknowledge 0 ∷ []) ∷
     -- at every thread
     accepts 3 1 (0 ∷ []) (acceptBarrier 0 0 ∷ propagateBarrier 0 1 ∷ propagateBarrier 0 2 ∷ acknowledge 0 ∷ []) ∷
+    -- a coherence successor is there instead of the Group A write
+    accepts 2 1 (0 ∷ []) (acceptWrite 0 0 1 ∷ acceptBarrier 0 0 ∷ acceptWrite 1 0 2 ∷ commit 0 1 ∷ propagateBarrier 0 1 ∷ acknowledge 0 ∷ []) ∷
     -- an lwsync
     refuses 1 1 1 1 (0 ∷ []) (acceptBarrier 0 1 ∷ acknowledge 0 ∷ []) ∷
     -- one that is not at every thread either: the first of the two
@@ -268,6 +276,12 @@ layoutCases =
     reads 3 10 0 (1 ∷ 1 ∷ 0 ∷ 2 ∷ 1 ∷ 0 ∷ 0 ∷ 9 ∷ 3 ∷ 0 ∷ 1 ∷ []) ∷
     reads 3 9 0 (1 ∷ 1 ∷ 0 ∷ 2 ∷ 1 ∷ 0 ∷ 0 ∷ 9 ∷ 7 ∷ 0 ∷ []) ∷
     reads 3 8 0 (1 ∷ 1 ∷ 0 ∷ 2 ∷ 2 ∷ 0 ∷ 0 ∷ 7 ∷ 1 ∷ []) ∷
+    reads 3 8 0 (1 ∷ 1 ∷ 0 ∷ 2 ∷ 2 ∷ 0 ∷ 0 ∷ 4 ∷ 1 ∷ 0 ∷ []) ∷
+    reads 3 9 0 (1 ∷ 1 ∷ 0 ∷ 2 ∷ 2 ∷ 0 ∷ 0 ∷ 4 ∷ 0 ∷ 1 ∷ []) ∷
+    reads 3 9 0 (1 ∷ 1 ∷ 0 ∷ 2 ∷ 1 ∷ 0 ∷ 0 ∷ 9 ∷ 5 ∷ 1 ∷ 0 ∷ []) ∷
+    -- a value above the greatest
+    reads 3 7 0 (1 ∷ 1 ∷ 0 ∷ 1 ∷ 1 ∷ 0 ∷ 0 ∷ 128 ∷ 128 ∷ 128 ∷ 128 ∷ 16 ∷ []) ∷
+    reads 3 7 0 (1 ∷ 1 ∷ 0 ∷ 1 ∷ 6 ∷ 0 ∷ 0 ∷ 128 ∷ 128 ∷ 128 ∷ 128 ∷ 16 ∷ []) ∷
     -- a write that is accepted later names none yet
     reads 3 5 0 (2 ∷ 1 ∷ 0 ∷ 2 ∷ 3 ∷ 0 ∷ 1 ∷ 1 ∷ 0 ∷ 0 ∷ 9 ∷ []) ∷
     -- a number's form comes before its range

@@ -13,7 +13,7 @@ use Rattle.number.specs.declared.NumberRead.the-variants.{Number, Refused}
 use Rattle.model.specs.Limits.{mostThreads, mostAddresses, mostValue}
 use Rattle.storage_model.specs.Limits.{mostSteps}
 use Rattle.storage_model.specs.Trace.{Trace}
-use Rattle.storage_model.specs.Layout.{nextStep, trace, readTrace}
+use Rattle.storage_model.specs.Layout.{nextStep, trace, readTrace, listing}
 use Rattle.case.specs.Held.{pad}
 use Rattle.reader.specs.Answers.{Counts, Stores, StoresCounted, Padded, refusedAt, refusedCount}
 use Rattle.reader.specs.declared.PlaceRead.{PlaceRead}
@@ -25,7 +25,7 @@ use Rattle.reader.proofs.Filling.{Done, next-of}
 use Rattle.reader.proofs.Fields.{number-stop, place-stop}
 use Rattle.reader.proofs.Whole.{counted-stop, counted-next}
 use Rattle.trace_reader.specs.Held.{heldTrace, readingShown}
-use Rattle.trace_reader.specs.Fields.{Steps, Listing, listing}
+use Rattle.trace_reader.specs.Fields.{Steps, Listing}
 use Rattle.trace_reader.specs.declared.Trace.{Trace as Held}
 use Rattle.trace_reader.specs.declared.TraceReading.{TraceReading}
 use Rattle.trace_reader.proofs.AllSteps.{steps-long}

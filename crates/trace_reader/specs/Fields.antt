@@ -45,14 +45,6 @@ anyFields kind firsts seconds = do
   x ← under firsts
   cond (eqb kind 7) (give (stepOf kind x 0 0)) (secondField kind x seconds)
 
--- what follows the counts of threads and addresses
-unfoldable pub listing : (n m : ℕ) → Reader Trace
-listing n m = do
-  initials ← times m (upTo mostValue)
-  i ← upTo mostSteps
-  steps ← turns i (nextStep n m) []
-  give (record { n = n; m = m; initials = initials; steps = steps })
-
 -- a step in the code's struct
 abbrev pub heldStep : Step → code.Step
 heldStep x = record { kind = kindOf x; first = firstOf x; second = secondOf x; value = valueOf x }

@@ -12,7 +12,7 @@ use Rattle.model.specs.Limits.{mostThreads}
 use Rattle.storage_model.specs.Limits.{mostWrites, mostBarriers, mostListed}
 use Rattle.storage_model.specs.Trace.{acceptWrite, acceptBarrier, acknowledge, sync}
 use Rattle.storage_model.specs.Relation.{related}
-use Rattle.storage_model.specs.Subsystem.{State, Write, Barrier, Event, write, barrier, events, coherent, writesSeen, barriersSeen, appended, followed, effect}
+use Rattle.storage_model.specs.Subsystem.{State, Write, Barrier, Event, write, barrier, events, coherent, writesSeen, barriersSeen, appended, followed, withEvent, effect}
 use Rattle.case.specs.Held.{pad, rowsOf}
 use Rattle.case.proofs.Pad.{pad-next, field-put}
 use Rattle.storage.specs.Held.{stateOf, held, eventOf, entryOf, rowsHeld, Good}
@@ -20,7 +20,7 @@ use Rattle.storage.specs.declared.Storage.{Storage as Held}
 use Rattle.storage.proofs.Events.{write-of, barrier-of, entry-back}
 use Rattle.storage.proofs.Stores.{listed-append, events-append, before-more}
 use Rattle.storage.proofs.Means.{writes-of, barriers-of, lists-of, marks-of, events-of, list-length, list-short, listed-is, events-is, unacknowledged-is}
-use Rattle.transitions.specs.Steps.{withEvent, NewRow}
+use Rattle.transitions.specs.Steps.{NewRow}
 use Rattle.transitions.proofs.Followed.{followed-last, followed-kept}
 
 -- ---- the stores
@@ -112,7 +112,7 @@ module _ (c : Held) (G : Good c) where
 
   -- an event more in a thread's list
   pub append-held : (t x : ℕ) → t < c .threads → getD (c .listed) t 0 < mostListed → withEntry c t x ≡ held (withEvent s t (eventOf x))
-  unfolding held withEvent
+  unfolding held
   append-held t x l room = λ i. record {
     threads = G .same i .threads;
     addresses = G .same i .addresses;
@@ -161,7 +161,7 @@ module _ (c : Held) (G : Good c) where
 
     rows : set (out .before) (c .writes) row
         ≡ rowsHeld (length (s .writes ++ (new-write ∷ []))) (followed s t a)
-    unfolding held withEvent coherent
+    unfolding held coherent
     rows =
         ap₂ (λ (x : Held) (k : ℕ). set (x .before) k row) write-listed (sym (writes-of c))
         ∙ before-more (writesSeen s) (s .coherence) (followed s t a) row (rw (writes-of c) room)
@@ -170,7 +170,7 @@ module _ (c : Held) (G : Good c) where
         ∙ ap (λ (k : ℕ). rowsHeld k (followed s t a)) (sym (one-longer (s .writes) new-write))
 
     pub write-held : withWrite out (c .writes) t a v row ≡ held (effect s (acceptWrite t a v))
-    unfolding held withEvent effect
+    unfolding held effect
     write-held = λ i. record {
       threads = write-listed i .threads;
       addresses = write-listed i .addresses;
@@ -202,7 +202,7 @@ module _ (c : Held) (G : Good c) where
     barrier-field f = pad-next f mostBarriers (s .barriers) new-barrier (c .barriers) (barriers-of c) room
 
     pub barrier-held : withBarrier out (c .barriers) t class mark ≡ held (effect s (acceptBarrier t class))
-    unfolding held withEvent effect
+    unfolding held effect
     barrier-held = λ i. record {
       threads = barrier-listed i .threads;
       addresses = barrier-listed i .addresses;

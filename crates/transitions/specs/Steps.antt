@@ -8,7 +8,7 @@ use lib.Dec.{ltb}
 use lib.ListN.{getD, length}
 use Rattle.storage_model.specs.Trace.{Step}
 use Rattle.storage_model.specs.Relation.{related}
-use Rattle.storage_model.specs.Subsystem.{State, Event, arrived, separated, appended, followed, failing, effect}
+use Rattle.storage_model.specs.Subsystem.{arrived, separated, followed, failing, effect}
 use Rattle.rows.specs.Sets.{Set}
 use Rattle.storage.specs.Held.{stateOf, held, eventOf, edgeIn}
 use Rattle.storage.specs.declared.Storage.{Storage as Held}
@@ -17,18 +17,6 @@ use Rattle.transitions.specs.declared.Stepped.{Stepped}
 -- the set of the events that have been propagated to thread t
 pub record Here (c : Held) (t here : ℕ) : Type 0 where
   pub set : Set here (λ e. arrived (stateOf c) (eventOf e) t)
-
--- "append .. to s.events_propagated_to(tid)": the effect of both kinds of propagation
-unfoldable pub withEvent : State → (t : ℕ) → Event → State
-withEvent s t e = record {
-  threads = s .threads;
-  initials = s .initials;
-  writes = s .writes;
-  coherence = s .coherence;
-  barriers = s .barriers;
-  propagated = appended (s .propagated) t e;
-  unacknowledged = s .unacknowledged;
-}
 
 -- the writes before a new one by thread t to address a
 pub record NewRow (c : Held) (t a row : ℕ) : Type 0 where

@@ -8,11 +8,11 @@ ghost use Rattle.finite.specs.Tests.{tick};
 ghost use Rattle.model.specs.Limits.{mostThreads};
 ghost use Rattle.storage_model.specs.Limits.{mostWrites, mostBarriers, mostListed};
 ghost use Rattle.storage_model.specs.Trace.{sync, acceptWrite, acceptBarrier, propagateWrite, propagateBarrier, commit as commitStep, respond as respondStep, acknowledge as acknowledgeStep};
-ghost use Rattle.storage_model.specs.Subsystem.{writeIsAfter, barriersWentBefore, groupAWentBefore, toOneAddress, unrelated as unrelatedIn, acyclicWith, committed as committedIn, respondsLatest, everywhere as everywhereIn, followed, failing, effect};
+ghost use Rattle.storage_model.specs.Subsystem.{writeIsAfter, barriersWentBefore, groupAWentBefore, toOneAddress, unrelated as unrelatedIn, acyclicWith, committed as committedIn, respondsLatest, everywhere as everywhereIn, followed, failing, withEvent, effect};
 ghost use Rattle.storage_model.specs.Fits.{StepFits};
 ghost use Rattle.rows.specs.Sets.{Set};
 ghost use Rattle.storage.specs.Held.{Good, stateOf, held, eventOf, edgeIn, rowsHeld};
-ghost use Rattle.transitions.specs.Steps.{Here, Took, NewRow, Separated, withEvent};
+ghost use Rattle.transitions.specs.Steps.{Here, Took, NewRow, Separated};
 use case::Case;
 use storage::Storage;
 

@@ -1,9 +1,9 @@
 -- `transitions::accept_barrier` meets its contract. Assumes nothing.
 use mathlib.Core.Path.{ap, _∙_}
 use borrow.Author.Needs.{needs}
+use Rattle.storage_model.specs.Subsystem.{withEvent}
 use Rattle.storage.specs.Held.{held, stateOf, eventOf}
 use Rattle.storage.proofs.Means.{threads-few, writes-few}
-use Rattle.transitions.specs.Steps.{withEvent}
 use Rattle.transitions.proofs.Effects.{barrier-held}
 use Rattle.transitions.proofs.Room.{room-new}
 use Rattle.transitions.proofs.accept_barrier.Statement.{statement}
