@@ -110,6 +110,7 @@ enum {
  *            21  a condition's text is outside the grammar
  *            22  a condition's text is nested too deep
  *            23  a byte of the name is not printable (32 to 126)
+ *            31  of a trace: a step is not enabled where it stands
  *          A sync orders any two events; an lwsync orders loads and stores, but not a store
  *          before a load.
  *          Where several rules are broken, the lowest is given.
