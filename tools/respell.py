@@ -110,6 +110,13 @@ def main():
     for p in specs + lemmas + files(top, "src/**/*.rt", "must-fail/*.edit"):
         text = read(p)
 
+        # a source file's own short names for what it imports
+        short = {n: snake(n) for n in re.findall(r" as ([a-z]\w*)[,}]", text) if CAMEL.fullmatch(n)} if p.endswith(".rt") else {}
+        clash = [n for n in short if re.search(rf"[{{ ]{short[n]}[,}}]", text)]
+        if clash:
+            print(f"kept in {p}: {clash}")
+        short = {n: short[n] for n in short if n not in clash}
+
         def respelled(found):
             n, behind_dot = found[0], text[found.start() - 1 : found.start()] == "."
             # what stands behind a dot may be a function's module, or a field that a check makes, and a plain word in code a function
@@ -117,7 +124,7 @@ def main():
                 is_other = behind_dot or p.endswith(".rt")
             else:
                 is_other = behind_dot and "-" in n and n not in stated
-            return n if is_other else primed.get(p, {}).get(n) or words.get(n, n)
+            return n if is_other else primed.get(p, {}).get(n) or words.get(n, short.get(n, n))
 
         now = antt.sub(respelled, text)
         if now != text:

@@ -1,8 +1,8 @@
 // The answers that callers get, and what they hold of a case without fault.
 ghost use Rattle.std.specs.Prelude.{◌≡◌};
-ghost use Rattle.model.specs.Rules.{verdict as verdictOf};
+ghost use Rattle.model.specs.Rules.{verdict as verdict_of};
 ghost use Rattle.model.specs.Written.{record_of};
-ghost use Rattle.model.specs.Answers.{refusal, done, judgement, put as putRecord};
+ghost use Rattle.model.specs.Answers.{refusal, done, judgement, put as put_record};
 ghost use Rattle.case.specs.Held.{case_of};
 ghost use Rattle.case.specs.Sound.{Sound};
 ghost use Rattle.rules.specs.Verdict.{model_of};
@@ -49,7 +49,7 @@ pub fn finished(length: usize) -> Answer
 // The verdict and the finals of a case whose record is so many bytes long.
 pub fn judged(c: Case, length: usize, strong: bool) -> Answer
     requires { Sound c }
-    ensures { result ≡ shown (judgement (case_of c) length (verdictOf (case_of c) (model_of strong))) }
+    ensures { result ≡ shown (judgement (case_of c) length (verdict_of (case_of c) (model_of strong))) }
 {
     let number = rules::verdict(c, strong);
     if number == 0 {
@@ -72,8 +72,8 @@ pub fn judged(c: Case, length: usize, strong: bool) -> Answer
 // Writes the record of a case without fault into the buffer from a place on, or 6.
 pub fn put(c: Case, out: &mut [u8], at: usize) -> Answer
     requires { Sound c }
-    ensures value { result ≡ shown (putRecord (record_of (case_of c)) out.old at).answer }
-    ensures out_after { out.new ≡ (putRecord (record_of (case_of c)) out.old at).buffer }
+    ensures value { result ≡ shown (put_record (record_of (case_of c)) out.old at).answer }
+    ensures out_after { out.new ≡ (put_record (record_of (case_of c)) out.old at).buffer }
 {
     let stored = writer::put(c, out, at);
     Answer {

@@ -4,9 +4,9 @@ ghost use Rattle.finite.specs.Tests.{all, count};
 ghost use Rattle.finite.specs.Lists.{table};
 ghost use Rattle.bits.specs.Bit.{bit};
 ghost use Rattle.model.specs.Limits.{between, least_edition, most_edition, second, most_threads, most_addresses, most_events, most_dependencies, most_value, most_name};
-ghost use Rattle.model.specs.Case.{bare as bareKind, most_kind, store, by_address, most_class, printable as printable_byte};
+ghost use Rattle.model.specs.Case.{bare as bare_kind, most_kind, store, by_address, most_class, printable as printable_byte};
 ghost use Rattle.model.specs.Record.{dependency_rank};
-ghost use Rattle.model.specs.Fault.{event_good, dependency_within, dependency_fault, write_fault, writes_fault, name_fault, fault as faultOf};
+ghost use Rattle.model.specs.Fault.{event_good, dependency_within, dependency_fault, write_fault, writes_fault, name_fault, fault as fault_of};
 ghost use Rattle.model.specs.Bound.{most_bytes};
 ghost use Rattle.case.specs.Held.{event_of, link_count, link, links_of, good_at, links_fault, case_of, empty_case};
 ghost use Rattle.case.specs.Stores.{store_at, writes_at};
@@ -202,7 +202,7 @@ pub fn printable(b: u8) -> bool
 
 // Whether events of the kind have neither address nor value.
 pub fn bare(kind: u8) -> bool
-    ensures { result ≡ bareKind kind }
+    ensures { result ≡ bare_kind kind }
 {
     if kind == Case::SYNC {
         true
@@ -290,7 +290,7 @@ fn ends_in_store(class: usize) -> bool
 // Whether a dependency of the class may end in an event of the kind.
 fn may_end(class: usize, kind: u8) -> bool
     requires { class ≤ most_class }
-    ensures { result ≡ (not (bareKind kind) && (eqb class by_address || eqb kind store)) }
+    ensures { result ≡ (not (bare_kind kind) && (eqb class by_address || eqb kind store)) }
 {
     if bare(kind) {
         return false;
@@ -570,7 +570,7 @@ fn name_fault(name: &[u8; Case::MOST_NAME], length: usize) -> u8
 // The refusal of a case that is handed without bytes: 3 or 4, as the reader would give it for the first bad field, then 23 for a
 // byte of its name; 0 if there is none.
 pub fn fault(c: Case) -> u8
-    ensures { result ≡ faultOf (case_of c) }
+    ensures { result ≡ fault_of (case_of c) }
 {
     if !head_good(c.edition, c.threads, c.addresses) {
         return 3;

@@ -3,7 +3,7 @@ ghost use Rattle.std.specs.Prelude.{◌≡◌, not, ◌&&◌, ◌||◌, ◌<◌,
 ghost use Rattle.finite.specs.Tests.{all, some};
 ghost use Rattle.bits.specs.Bit.{bit};
 ghost use Rattle.storage_model.specs.Limits.{most_writes};
-ghost use Rattle.storage_model.specs.Relation.{closure, acyclic as acyclicIn};
+ghost use Rattle.storage_model.specs.Relation.{closure, acyclic as acyclic_in};
 ghost use Rattle.rows.specs.Sets.{Set};
 ghost use Rattle.storage.specs.Held.{edge_in, relation_in};
 ghost use Rattle.coherence.specs.Rows.{Committed, ByWayOf};
@@ -130,7 +130,7 @@ fn irreflexive(before: &[u64; Storage::MOST_WRITES], k: usize) -> bool
 // Whether the rows of k writes have no cycle.
 pub fn acyclic(before: [u64; Storage::MOST_WRITES], k: usize) -> bool
     requires { k ≤ most_writes }
-    ensures { result ≡ acyclicIn k (edge_in before) }
+    ensures { result ≡ acyclic_in k (edge_in before) }
 {
     let mut reached = before;
     close(&mut reached, k);

@@ -8,7 +8,7 @@ ghost use Rattle.case.specs.Held.{case_of};
 ghost use Rattle.case.specs.Sound.{Sound};
 ghost use Rattle.rules.specs.Verdict.{model_of};
 ghost use Rattle.answers.specs.Shown.{shown};
-ghost use Rattle.condition_model.specs.Answers.{condition_out, without as withoutTruth};
+ghost use Rattle.condition_model.specs.Answers.{condition_out, without as without_truth};
 ghost use Rattle.condition_reader.specs.Told.{truth_out};
 ghost use Rattle.condition.specs.Shown.{shown_with, condition_shown, shown_by, firsts, text_truth};
 
@@ -52,7 +52,7 @@ fn answered(answer: Answer, truth: bool) -> ConditionAnswer
 
 // A refusal and its place.
 pub fn refused(number: u8, place: usize) -> ConditionAnswer
-    ensures { result ≡ condition_shown (withoutTruth (refusal number place)) }
+    ensures { result ≡ condition_shown (without_truth (refusal number place)) }
 {
     answered(answers::refused(number, place), false)
 }

@@ -2,7 +2,7 @@
 ghost use Rattle.std.specs.Prelude.{◌≡◌, ◌&&◌, ◌||◌, not, ◌+◌, ◌*◌, ◌-◌, ◌≤◌, ◌<◌, eqb, length, drop};
 ghost use Rattle.number.specs.Reader.{number_out};
 ghost use Rattle.model.specs.Limits.{most_value};
-ghost use Rattle.condition_model.specs.Reader.{byte, skipped, is_digit, digits, unfit as unfitDigits, number_in, valued as valuedIn, equation_at, read_text};
+ghost use Rattle.condition_model.specs.Reader.{byte, skipped, is_digit, digits, unfit as unfit_digits, number_in, valued as valued_in, equation_at, read_text};
 ghost use Rattle.condition_model.specs.Truth.{truth_c, truth_f};
 ghost use Rattle.condition_reader.specs.Told.{map_out, truth_out, sign_out, value_in, is_address, is_load, is_value, held_ranges, Small, digits_in, sign_at, closed_by, ReadAs, Phrase.disjunction, Phrase.conjunction, Phrase.single, equation_truth};
 
@@ -111,7 +111,7 @@ fn value_of(text: &[u8], at: usize) -> NumberRead
 
 // Whether no digit stands at a place, or a needless zero.
 fn unfit(text: &[u8], at: usize) -> bool
-    ensures { result ≡ unfitDigits (digits (drop at text.now)) }
+    ensures { result ≡ unfit_digits (digits (drop at text.now)) }
 {
     let first = peek(text, at);
     if is_digit(first) {
@@ -135,7 +135,7 @@ fn number(text: &[u8], at: usize) -> NumberRead
 
 // `=` and a value, compared with x.
 fn valued(text: &[u8], at: usize, x: u32) -> ConditionRead
-    ensures { truth_out result ≡ map_out (eqb x) (valuedIn is_value text.now at) }
+    ensures { truth_out result ≡ map_out (eqb x) (valued_in is_value text.now at) }
 {
     if peek(text, at) == EQUALS {
         let read = number(text, skip(text, at + 1));

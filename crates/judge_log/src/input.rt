@@ -1,7 +1,7 @@
 // The log on an input, judged piece by piece.
 ghost use Rattle.std.specs.Prelude.{◌≡◌, ◌≤◌, length};
 ghost use Rattle.log_model.specs.Claim.{Placed};
-ghost use Rattle.judge_log.specs.Progress.{Room, begun as begunAs, given_up, JudgedHeld, held_on, is_due, AfterRead, Ready, Stepped, Finished};
+ghost use Rattle.judge_log.specs.Progress.{Room, begun as begun_as, given_up, JudgedHeld, held_on, is_due, AfterRead, Ready, Stepped, Finished};
 
 use case::Case;
 use litmus::Tally;
@@ -34,7 +34,7 @@ fn room() -> [u8; ROOM]
 }
 
 fn begun() -> Progress
-    ensures { result ≡ begunAs }
+    ensures { result ≡ begun_as }
 {
     Progress {
         at: 0,

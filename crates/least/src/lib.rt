@@ -1,13 +1,13 @@
 // A case's representative: the renumbering with the least record, found by comparing fields.
 ghost use Rattle.std.specs.Prelude.{◌≡◌, cond, [], ◌≤◌, ◌<◌};
 ghost use Rattle.number.specs.Number.{encode};
-ghost use Rattle.permutation.specs.Permutation.{labels, image as image_of, inverse as inverseOf};
+ghost use Rattle.permutation.specs.Permutation.{labels, image as image_of, inverse as inverse_of};
 ghost use Rattle.model.specs.Limits.{most_threads, most_addresses, most_events};
-ghost use Rattle.model.specs.Case.{bare as bareOf};
+ghost use Rattle.model.specs.Case.{bare as bare_of};
 ghost use Rattle.model.specs.Fault.{fault};
 ghost use Rattle.case.specs.Held.{case_of, held};
 ghost use Rattle.writer.specs.Stages.{run};
-ghost use Rattle.classes.specs.Representative.{representative as representativeOf};
+ghost use Rattle.classes.specs.Representative.{representative as representative_of};
 ghost use Rattle.classes.specs.Search.{BestThreads, BestAddresses};
 ghost use Rattle.compare.specs.Decided.{Decided};
 ghost use Rattle.least.specs.Parts.{thread_at, order_at, threads_part, initial_at, address_at, addresses_part, better};
@@ -43,7 +43,7 @@ fn threads(thread: &[u8; Case::MOST_EVENTS], k: usize, q: usize, p: usize) -> u8
 // The label whose values move to label y under the permutation q.
 fn source(q: usize, y: usize) -> usize
     requires { y < labels }
-    ensures { (result ≡ image_of (inverseOf q) y) × (result < labels) }
+    ensures { (result ≡ image_of (inverse_of q) y) × (result < labels) }
 {
     permutation::image(permutation::inverse(q), y)
 }
@@ -168,7 +168,7 @@ fn initials(initials: &[u32; Case::MOST_ADDRESSES], m: usize, r: usize, s: usize
 
 // How the address fields of an event of the kind compare, if it has one.
 fn address(kind: u8, x: u8, r: usize, s: usize) -> u8
-    ensures { Decided (cond (bareOf kind) [] (encode (image_of r x))) (cond (bareOf kind) [] (encode (image_of s x))) result }
+    ensures { Decided (cond (bare_of kind) [] (encode (image_of r x))) (cond (bare_of kind) [] (encode (image_of s x))) result }
 {
     if case::bare(kind) {
         return compare::EQUAL;
@@ -265,7 +265,7 @@ fn best_addresses(c: Case) -> usize
 // The renumbering of a case whose record is the least.
 pub fn representative(c: Case) -> Case
     requires { fault (case_of c) ≡ 0 }
-    ensures { result ≡ held (representativeOf (case_of c)) }
+    ensures { result ≡ held (representative_of (case_of c)) }
 {
     let q = best_threads(c);
     let r = best_addresses(c);

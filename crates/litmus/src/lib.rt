@@ -1,20 +1,20 @@
 // Judging litmus cases for the POWER memory model PPC-Core: what users call. Every function takes any bytes and any numbers.
 ghost use Rattle.std.specs.Prelude.{◌≡◌, true, eqb, replicate};
-ghost use Rattle.permutation.specs.Permutation.{composite as compositeOf, inverse as inverseOf, fits as fits_of};
+ghost use Rattle.permutation.specs.Permutation.{composite as composite_of, inverse as inverse_of, fits as fits_of};
 ghost use Rattle.model.specs.Rules.{or_else};
-ghost use Rattle.model.specs.Record.{read as readRecord};
-ghost use Rattle.model.specs.Answers.{answer_of, judge as judgeRecord, judge_case, write as writeCase, renumber_record, renumber_case, name as name_of, judged_name, renumbered_name, room_in};
+ghost use Rattle.model.specs.Record.{read as read_record};
+ghost use Rattle.model.specs.Answers.{answer_of, judge as judge_record, judge_case, write as write_case, renumber_record, renumber_case, name as name_of, judged_name, renumbered_name, room_in};
 ghost use Rattle.number.specs.Reader.{stop};
-ghost use Rattle.model.specs.Renumber.{fitting as fittingOf};
+ghost use Rattle.model.specs.Renumber.{fitting as fitting_of};
 ghost use Rattle.case.specs.Held.{case_of};
 ghost use Rattle.answers.specs.Shown.{shown};
-ghost use Rattle.classes.specs.Representative.{representative_record, representative_case, choice as choice_of, lesser as lesserOf};
+ghost use Rattle.classes.specs.Representative.{representative_record, representative_case, choice as choice_of, lesser as lesser_of};
 ghost use Rattle.representatives.specs.Shown.{choice_shown};
 ghost use Rattle.log_model.specs.Pieces.{judge_log};
 ghost use Rattle.log.specs.Shown.{answer_shown};
-ghost use Rattle.area_model.specs.Area.{frame_at, append as appendArea, repair as repairArea};
+ghost use Rattle.area_model.specs.Area.{frame_at, append as append_area, repair as repair_area};
 ghost use Rattle.area.specs.Shown.{frame_shown};
-ghost use Rattle.condition_model.specs.Answers.{condition as conditionOf, condition_case};
+ghost use Rattle.condition_model.specs.Answers.{condition as condition_of, condition_case};
 ghost use Rattle.condition.specs.Shown.{condition_shown};
 ghost use Rattle.storage_model.specs.Layout.{read_trace};
 ghost use Rattle.storage_model.specs.Answers.{judge_trace};
@@ -64,7 +64,7 @@ const MODELS: u64 = 2;
 
 // Reads a record: 0, its length and its case, or 1 to 4 or 23 and the place.
 pub fn read(bytes: &[u8]) -> CaseAnswer
-    ensures { result ≡ case_shown (readRecord bytes.now) }
+    ensures { result ≡ case_shown (read_record bytes.now) }
 {
     let reading = reader::read_case(bytes);
     let answer = Answer {
@@ -79,7 +79,7 @@ pub fn read(bytes: &[u8]) -> CaseAnswer
 
 // Judges a record under model 0 (PPCw) or 1 (PPCs): 7 for any other; the record's 1 to 4 or 23; 11 to 18; or 0 with the finals.
 pub fn judge(bytes: &[u8], model: u64) -> Answer
-    ensures { result ≡ shown (judgeRecord model bytes.now) }
+    ensures { result ≡ shown (judge_record model bytes.now) }
 {
     if MODELS <= model {
         return answers::refused(NO_MODEL, 0);
@@ -110,7 +110,7 @@ pub fn judge_case(c: Case, model: u64) -> Answer
 // Whether a condition in text holds for a record under a model: `judge`'s answer where its number isn't 0; the text's 3, 21 or 22 and the place in it; or
 // 0 with length and finals as `judge` gives them, and whether the condition holds.
 pub fn condition(bytes: &[u8], model: u64, text: &[u8]) -> ConditionAnswer
-    ensures { result ≡ condition_shown (conditionOf model bytes.now text.now) }
+    ensures { result ≡ condition_shown (condition_of model bytes.now text.now) }
 {
     if MODELS <= model {
         return condition::refused(NO_MODEL, 0);
@@ -155,8 +155,8 @@ pub fn judge_trace(bytes: &[u8]) -> TraceAnswer
 
 // Writes a case's record into the buffer from a place on: 3, 4 or 23 with place 0 for a bad field, then 6.
 pub fn write(c: Case, out: &mut [u8], at: usize) -> Answer
-    ensures value { result ≡ shown (writeCase (case_of c) out.old at).answer }
-    ensures out_after { out.new ≡ (writeCase (case_of c) out.old at).buffer }
+    ensures value { result ≡ shown (write_case (case_of c) out.old at).answer }
+    ensures out_after { out.new ≡ (write_case (case_of c) out.old at).buffer }
 {
     let fault = case::fault(c);
     if fault == 0 {
@@ -167,7 +167,7 @@ pub fn write(c: Case, out: &mut [u8], at: usize) -> Answer
 
 // Whether q maps the case's threads onto themselves, and r its addresses.
 fn fitting(c: Case, q: u64, r: u64) -> bool
-    ensures { result ≡ fittingOf q r (case_of c) }
+    ensures { result ≡ fitting_of q r (case_of c) }
 {
     if fits(q, c.threads) {
         return fits(r, c.addresses);
@@ -249,7 +249,7 @@ pub fn compared(first: &[u8], second: &[u8]) -> Choice
 
 // The lesser of two records itself, the first if they are equal; an empty part where either can't be read.
 pub fn lesser<'a>(first: &'a [u8], second: &'a [u8]) -> &'a [u8]
-    ensures { result.now ≡ lesserOf first.now second.now }
+    ensures { result.now ≡ lesser_of first.now second.now }
 {
     representatives::lesser(first, second)
 }
@@ -299,8 +299,8 @@ pub fn renumbered_name<'a>(bytes: &'a [u8], q: u64, r: u64, room: usize, at: usi
 // Appends a record to the log in an area, by at most so many stores: the log's own 9, 1 to 4 or 23; the record's 1 to 4 or 23; 6 for too
 // little room; 8 where bytes behind the last finished frame are not `FF`; or 0 and the stores made, the flag's last.
 pub fn area_append(area: &mut [u8], bytes: &[u8], allowed: usize) -> Answer
-    ensures value { result ≡ shown (appendArea area.old bytes.now allowed).answer }
-    ensures area_after { area.new ≡ (appendArea area.old bytes.now allowed).buffer }
+    ensures value { result ≡ shown (append_area area.old bytes.now allowed).answer }
+    ensures area_after { area.new ≡ (append_area area.old bytes.now allowed).buffer }
 {
     area::append(area, bytes, allowed)
 }
@@ -308,8 +308,8 @@ pub fn area_append(area: &mut [u8], bytes: &[u8], allowed: usize) -> Answer
 // Fills an area with `FF` behind its last finished frame, by at most so many stores: the log's own 9, 1 to 4 or 23; or 0 and the stores
 // made.
 pub fn area_repair(area: &mut [u8], allowed: usize) -> Answer
-    ensures value { result ≡ shown (repairArea area.old allowed).answer }
-    ensures area_after { area.new ≡ (repairArea area.old allowed).buffer }
+    ensures value { result ≡ shown (repair_area area.old allowed).answer }
+    ensures area_after { area.new ≡ (repair_area area.old allowed).buffer }
 {
     area::repair(area, allowed)
 }
@@ -387,14 +387,14 @@ pub fn rule11_tests_agree(
 
 // First the permutation q, then r.
 pub fn composite(q: u64, r: u64) -> u64
-    ensures { result ≡ compositeOf q r }
+    ensures { result ≡ composite_of q r }
 {
     permutation::composite(q as usize, r as usize) as u64
 }
 
 // The permutation that takes q back.
 pub fn inverse(q: u64) -> u64
-    ensures { result ≡ inverseOf q }
+    ensures { result ≡ inverse_of q }
 {
     permutation::inverse(q as usize) as u64
 }
@@ -410,7 +410,7 @@ pub fn fits(q: u64, n: usize) -> bool
 
 #[unsafe(no_mangle)]
 pub extern "C" fn litmus_read(bytes: &[u8]) -> Answer
-    ensures { result ≡ shown (answer_of (readRecord bytes.now)) }
+    ensures { result ≡ shown (answer_of (read_record bytes.now)) }
 {
     let reading = read(bytes);
     reading.answer
@@ -418,14 +418,14 @@ pub extern "C" fn litmus_read(bytes: &[u8]) -> Answer
 
 #[unsafe(no_mangle)]
 pub extern "C" fn litmus_judge(bytes: &[u8], model: u64) -> Answer
-    ensures { result ≡ shown (judgeRecord model bytes.now) }
+    ensures { result ≡ shown (judge_record model bytes.now) }
 {
     judge(bytes, model)
 }
 
 #[unsafe(no_mangle)]
 pub extern "C" fn litmus_condition(bytes: &[u8], model: u64, text: &[u8]) -> ConditionAnswer
-    ensures { result ≡ condition_shown (conditionOf model bytes.now text.now) }
+    ensures { result ≡ condition_shown (condition_of model bytes.now text.now) }
 {
     condition(bytes, model, text)
 }
@@ -461,7 +461,7 @@ pub extern "C" fn litmus_lesser(first: &[u8], second: &[u8]) -> Choice
 
 #[unsafe(no_mangle)]
 pub extern "C" fn litmus_name(bytes: &[u8]) -> Part
-    ensures { result ≡ part_shown (readRecord bytes.now) }
+    ensures { result ≡ part_shown (read_record bytes.now) }
 {
     let part = reader::name_part(bytes);
     Part {
@@ -511,15 +511,15 @@ pub extern "C" fn litmus_renumbered_name(
 
 #[unsafe(no_mangle)]
 pub extern "C" fn litmus_case_read(bytes: &[u8]) -> CaseAnswer
-    ensures { result ≡ case_shown (readRecord bytes.now) }
+    ensures { result ≡ case_shown (read_record bytes.now) }
 {
     read(bytes)
 }
 
 #[unsafe(no_mangle)]
 pub extern "C" fn litmus_case_write(c: Case, out: &mut [u8], at: u64) -> Answer
-    ensures value { result ≡ shown (writeCase (case_of c) out.old at).answer }
-    ensures out_after { out.new ≡ (writeCase (case_of c) out.old at).buffer }
+    ensures value { result ≡ shown (write_case (case_of c) out.old at).answer }
+    ensures out_after { out.new ≡ (write_case (case_of c) out.old at).buffer }
 {
     write(c, out, at as usize)
 }
@@ -567,16 +567,16 @@ pub extern "C" fn litmus_log_judge(
 
 #[unsafe(no_mangle)]
 pub extern "C" fn litmus_area_append(area: &mut [u8], bytes: &[u8], allowed: u64) -> Answer
-    ensures value { result ≡ shown (appendArea area.old bytes.now allowed).answer }
-    ensures area_after { area.new ≡ (appendArea area.old bytes.now allowed).buffer }
+    ensures value { result ≡ shown (append_area area.old bytes.now allowed).answer }
+    ensures area_after { area.new ≡ (append_area area.old bytes.now allowed).buffer }
 {
     area_append(area, bytes, allowed as usize)
 }
 
 #[unsafe(no_mangle)]
 pub extern "C" fn litmus_area_repair(area: &mut [u8], allowed: u64) -> Answer
-    ensures value { result ≡ shown (repairArea area.old allowed).answer }
-    ensures area_after { area.new ≡ (repairArea area.old allowed).buffer }
+    ensures value { result ≡ shown (repair_area area.old allowed).answer }
+    ensures area_after { area.new ≡ (repair_area area.old allowed).buffer }
 {
     area_repair(area, allowed as usize)
 }
@@ -604,14 +604,14 @@ pub extern "C" fn litmus_trace_read(bytes: &[u8]) -> TraceReading
 
 #[unsafe(no_mangle)]
 pub extern "C" fn litmus_composite(first: u64, then: u64) -> u64
-    ensures { result ≡ compositeOf first then }
+    ensures { result ≡ composite_of first then }
 {
     composite(first, then)
 }
 
 #[unsafe(no_mangle)]
 pub extern "C" fn litmus_inverse(q: u64) -> u64
-    ensures { result ≡ inverseOf q }
+    ensures { result ≡ inverse_of q }
 {
     inverse(q)
 }

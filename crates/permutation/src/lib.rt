@@ -1,6 +1,6 @@
 // The permutations of four labels, by their numbers in dictionary order.
 ghost use Rattle.std.specs.Prelude.{◌≡◌, ◌<◌};
-ghost use Rattle.permutation.specs.Permutation.{image as image_of, composite as compositeOf, inverse as inverseOf, fits as fits_of, known as known_of, permutations};
+ghost use Rattle.permutation.specs.Permutation.{image as image_of, composite as composite_of, inverse as inverse_of, fits as fits_of, known as known_of, permutations};
 
 // How many labels a permutation moves, and how many permutations there are.
 pub const LABELS: usize = 4;
@@ -87,7 +87,7 @@ fn known(q: usize) -> usize
 
 // First q, then r.
 pub fn composite(q: usize, r: usize) -> usize
-    ensures { result ≡ compositeOf q r }
+    ensures { result ≡ composite_of q r }
 {
     let a = known(q);
     let b = known(r);
@@ -95,7 +95,7 @@ pub fn composite(q: usize, r: usize) -> usize
 }
 
 pub fn inverse(q: usize) -> usize
-    ensures { result ≡ inverseOf q }
+    ensures { result ≡ inverse_of q }
 {
     let a = known(q);
     wide(INVERSE[a])

@@ -3,7 +3,7 @@ ghost use Rattle.std.specs.Prelude.{◌≡◌, [], ◌-◌, ◌*◌, ◌≤◌, 
 ghost use Rattle.number.specs.Reader.{times, turns, up_to, number_out, stop, next};
 ghost use Rattle.bits.specs.Bit.{bit};
 ghost use Rattle.model.specs.Limits.{most_threads, most_addresses, most_events, most_dependencies, most_value, most_name};
-ghost use Rattle.model.specs.Record.{event, rising_dependency, rising_dependencies, dependencies as dependenciesOf, rising_pair, order, unlisted, write_order, next_write_order, text, head as head_of, listing as listing_of, rest as rest_of, case as case_at, read};
+ghost use Rattle.model.specs.Record.{event, rising_dependency, rising_dependencies, dependencies as dependencies_of, rising_pair, order, unlisted, write_order, next_write_order, text, head as head_of, listing as listing_of, rest as rest_of, case as case_at, read};
 ghost use Rattle.model.specs.Answers.{name as name_of, name_part};
 ghost use Rattle.case.specs.Held.{good_at};
 ghost use Rattle.case.specs.Stores.{store_at};
@@ -293,7 +293,7 @@ fn read_dependencies(
 ) -> CountRead
     requires k_le_most_events { k ≤ most_events }
     requires links { Links classes.old froms.old tos.old [] }
-    ensures { StoresCounted (λ ds. length ds) (Links classes.new froms.new tos.new) (dependenciesOf edition k (good_at k kinds.now owners.now) bytes.now at) result }
+    ensures { StoresCounted (λ ds. length ds) (Links classes.new froms.new tos.new) (dependencies_of edition k (good_at k kinds.now owners.now) bytes.now at) result }
 {
     if !case::is_second(edition) {
         return CountRead::Count(0, at);

@@ -1,9 +1,9 @@
 // A case under a threads' and an addresses' permutation.
 ghost use Rattle.std.specs.Prelude.{◌≡◌, true, cond, ◌++◌, ◌+◌, ◌*◌, ◌%◌, ◌^◌, ◌≤◌, length, get_or, drop};
 ghost use Rattle.finite.specs.Lists.{table};
-ghost use Rattle.permutation.specs.Permutation.{image as image_of, inverse as inverseOf};
+ghost use Rattle.permutation.specs.Permutation.{image as image_of, inverse as inverse_of};
 ghost use Rattle.model.specs.Limits.{most_threads, most_addresses, most_events, most_dependencies};
-ghost use Rattle.model.specs.Case.{bare as bareOf};
+ghost use Rattle.model.specs.Case.{bare as bare_of};
 ghost use Rattle.model.specs.Renumber.{renumber, fitting};
 ghost use Rattle.case.specs.Held.{case_of, held, pad, rows_of};
 ghost use Rattle.case.specs.Stores.{writes_at};
@@ -48,7 +48,7 @@ fn initials(
     initial: &[u32; Case::MOST_ADDRESSES],
 ) -> [u32; Case::MOST_ADDRESSES]
     requires { m ≤ most_addresses }
-    ensures { result ≡ pad most_addresses (table 0 m (λ y. get_or initial.now (image_of (inverseOf r) y) 0)) }
+    ensures { result ≡ pad most_addresses (table 0 m (λ y. get_or initial.now (image_of (inverse_of r) y) 0)) }
 {
     let back = permutation::inverse(r);
     let mut out = [0u32; Case::MOST_ADDRESSES];
@@ -76,7 +76,7 @@ fn threads(q: usize, k: usize, thread: &[u8; Case::MOST_EVENTS]) -> [u8; Case::M
 
 // The new label of the address x of an event of the kind.
 fn address(r: usize, kind: u8, x: u8) -> u8
-    ensures { result ≡ cond (bareOf kind) 0 (image_of r x) }
+    ensures { result ≡ cond (bare_of kind) 0 (image_of r x) }
 {
     if case::bare(kind) {
         return 0;
@@ -92,7 +92,7 @@ fn addresses<'a>(
     xs: &'a [u8; Case::MOST_EVENTS],
 ) -> [u8; Case::MOST_EVENTS]
     requires { k ≤ most_events }
-    ensures { result ≡ pad most_events (table 0 k (λ e. cond (bareOf (get_or kinds.now e 0)) 0 (image_of r (get_or xs.now e 0)))) }
+    ensures { result ≡ pad most_events (table 0 k (λ e. cond (bare_of (get_or kinds.now e 0)) 0 (image_of r (get_or xs.now e 0)))) }
 {
     let mut out = [0u8; Case::MOST_EVENTS];
     let mut e: usize = 0;
@@ -105,7 +105,7 @@ fn addresses<'a>(
 
 // The value v of an event of the kind.
 fn value(kind: u8, v: u32) -> u32
-    ensures { result ≡ cond (bareOf kind) 0 v }
+    ensures { result ≡ cond (bare_of kind) 0 v }
 {
     if case::bare(kind) {
         return 0;
@@ -120,7 +120,7 @@ fn values<'a>(
     vs: &'a [u32; Case::MOST_EVENTS],
 ) -> [u32; Case::MOST_EVENTS]
     requires { k ≤ most_events }
-    ensures { result ≡ pad most_events (table 0 k (λ e. cond (bareOf (get_or kinds.now e 0)) 0 (get_or vs.now e 0))) }
+    ensures { result ≡ pad most_events (table 0 k (λ e. cond (bare_of (get_or kinds.now e 0)) 0 (get_or vs.now e 0))) }
 {
     let mut out = [0u32; Case::MOST_EVENTS];
     let mut e: usize = 0;
@@ -143,7 +143,7 @@ fn write_orders<'a>(
     requires m_le_most_addresses { m ≤ most_addresses }
     requires k_le_most_events { k ≤ most_events }
     requires writes_len { length writes.now ≡ most_addresses * most_events }
-    ensures { result ≡ pad (most_addresses * most_events) (rows_of most_events (table 0 m (λ y. writes_at kinds.now xs.now writes.now k (image_of (inverseOf r) y)))) }
+    ensures { result ≡ pad (most_addresses * most_events) (rows_of most_events (table 0 m (λ y. writes_at kinds.now xs.now writes.now k (image_of (inverse_of r) y)))) }
 {
     let back = permutation::inverse(r);
     let mut out = [0u8; Case::MOST_ADDRESSES * Case::MOST_EVENTS];
@@ -169,7 +169,7 @@ fn orders(
     requires n_le_most_threads { n ≤ most_threads }
     requires k_le_most_events { k ≤ most_events }
     requires rows_len { length rows.now ≡ most_threads * most_events }
-    ensures { result ≡ pad (most_threads * most_events) (rows_of most_events (table 0 n (λ p. order k rows.now (image_of (inverseOf q) p)))) }
+    ensures { result ≡ pad (most_threads * most_events) (rows_of most_events (table 0 n (λ p. order k rows.now (image_of (inverse_of q) p)))) }
 {
     let back = permutation::inverse(q);
     let mut out = [0u64; Case::MOST_THREADS * Case::MOST_EVENTS];

@@ -1,7 +1,7 @@
 // The calls about classes on records: a record's representative, and the lesser of two records.
 ghost use Rattle.std.specs.Prelude.{◌≡◌};
 ghost use Rattle.answers.specs.Shown.{shown};
-ghost use Rattle.classes.specs.Representative.{representative_record, choice as choice_of, lesser as lesserOf};
+ghost use Rattle.classes.specs.Representative.{representative_record, choice as choice_of, lesser as lesser_of};
 ghost use Rattle.representatives.specs.Shown.{choice_shown};
 
 use answers::Answer;
@@ -62,7 +62,7 @@ pub fn compared(first: &[u8], second: &[u8]) -> Choice
 
 // The lesser of two records itself, the first if they are equal; an empty part where either can't be read.
 pub fn lesser<'a>(first: &'a [u8], second: &'a [u8]) -> &'a [u8]
-    ensures { result.now ≡ lesserOf first.now second.now }
+    ensures { result.now ≡ lesser_of first.now second.now }
 {
     let chosen = compared(first, second);
     let length = chosen.length;

@@ -3,7 +3,7 @@ ghost use Rattle.std.specs.Prelude.{◌≡◌, true, ◌&&◌, ℕ, ◌+◌, ◌
 ghost use Rattle.finite.specs.Tests.{count};
 ghost use Rattle.bits.specs.Bit.{bit};
 ghost use Rattle.model.specs.Limits.{most_threads, most_addresses, most_events};
-ghost use Rattle.model.specs.Rules.{verdict as verdictOf, finals as finalsOf};
+ghost use Rattle.model.specs.Rules.{verdict as verdict_of, finals as finals_of};
 ghost use Rattle.case.specs.Held.{case_of};
 ghost use Rattle.case.specs.Sound.{Sound};
 ghost use Rattle.rows.specs.Sets.{Set, Sets, order_in};
@@ -249,7 +249,7 @@ fn broken_barrier<'a>(
 // The lowest broken rule of the case, under PPCs if strong and else under PPCw, or 0.
 pub fn verdict(c: Case, strong: bool) -> u8
     requires { Sound c }
-    ensures { result ≡ verdictOf (case_of c) (model_of strong) }
+    ensures { result ≡ verdict_of (case_of c) (model_of strong) }
 {
     let n = c.threads;
     let k = c.events;
@@ -371,7 +371,7 @@ fn final_value<'a>(
 // The final memory: the last store in each address's write order, or else the initial value.
 pub fn finals(c: Case) -> [u32; Case::MOST_ADDRESSES]
     requires { Sound c }
-    ensures { result ≡ finalsOf (case_of c) }
+    ensures { result ≡ finals_of (case_of c) }
 {
     let m = c.addresses;
     let k = c.events;

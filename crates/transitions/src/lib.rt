@@ -3,8 +3,8 @@ ghost use Rattle.std.specs.Prelude.{◌≡◌, Bool, true, false, not, ◌&&◌,
 ghost use Rattle.finite.specs.Tests.{tick};
 ghost use Rattle.model.specs.Limits.{most_threads};
 ghost use Rattle.storage_model.specs.Limits.{most_writes, most_barriers, most_listed};
-ghost use Rattle.storage_model.specs.Trace.{sync, accept_write, accept_barrier, propagate_write, propagate_barrier, commit as commitStep, respond as respondStep, acknowledge as acknowledgeStep};
-ghost use Rattle.storage_model.specs.Subsystem.{write_is_after, barriers_went_before, group_a_went_before, to_one_address, unrelated as unrelatedIn, acyclic_with, committed as committedIn, responds_latest, everywhere as everywhereIn, followed, failing, with_event, effect};
+ghost use Rattle.storage_model.specs.Trace.{sync, accept_write, accept_barrier, propagate_write, propagate_barrier, commit as commit_step, respond as respond_step, acknowledge as acknowledge_step};
+ghost use Rattle.storage_model.specs.Subsystem.{write_is_after, barriers_went_before, group_a_went_before, to_one_address, unrelated as unrelated_in, acyclic_with, committed as committed_in, responds_latest, everywhere as everywhere_in, followed, failing, with_event, effect};
 ghost use Rattle.storage_model.specs.Fits.{StepFits};
 ghost use Rattle.rows.specs.Sets.{Set};
 ghost use Rattle.storage.specs.Held.{Good, state_of, held, event_of, edge_in, rows_held};
@@ -245,7 +245,7 @@ fn committed(c: Storage, x: usize, y: usize) -> [u64; Storage::MOST_WRITES]
     requires good { Good c }
     requires x_lt_writes { x < c.writes }
     requires y_lt_writes { y < c.writes }
-    ensures { result ≡ rows_held c.writes (committedIn (state_of c) x y) }
+    ensures { result ≡ rows_held c.writes (committed_in (state_of c) x y) }
 {
     let k = c.writes;
     let mut before = c.before;
@@ -272,8 +272,8 @@ fn with_separated(c: Storage, before: [u64; Storage::MOST_WRITES]) -> [u64; Stor
 // Condition 3: no cycle in the rows and the writes that a barrier separates.
 fn acyclic_with(c: Storage, x: usize, y: usize, before: [u64; Storage::MOST_WRITES]) -> bool
     requires good { Good c }
-    requires before_value { before ≡ rows_held c.writes (committedIn (state_of c) x y) }
-    ensures { result ≡ acyclic_with (state_of c) (committedIn (state_of c) x y) }
+    requires before_value { before ≡ rows_held c.writes (committed_in (state_of c) x y) }
+    ensures { result ≡ acyclic_with (state_of c) (committed_in (state_of c) x y) }
 {
     let k = c.writes;
     coherence::acyclic(with_separated(c, before), k)
@@ -284,8 +284,8 @@ fn commit_fails(c: Storage, x: usize, y: usize, before: [u64; Storage::MOST_WRIT
     requires good { Good c }
     requires x_lt_writes { x < c.writes }
     requires y_lt_writes { y < c.writes }
-    requires before_value { before ≡ rows_held c.writes (committedIn (state_of c) x y) }
-    ensures { result ≡ failing (state_of c) (commitStep x y) }
+    requires before_value { before ≡ rows_held c.writes (committed_in (state_of c) x y) }
+    ensures { result ≡ failing (state_of c) (commit_step x y) }
 {
     if c.address[x] == c.address[y] {
         if unrelated(&c.before, x, y) {
@@ -304,7 +304,7 @@ pub fn commit(c: Storage, x: usize, y: usize) -> Stepped
     requires good { Good c }
     requires x_lt_writes { x < c.writes }
     requires y_lt_writes { y < c.writes }
-    ensures { Took c (commitStep x y) result }
+    ensures { Took c (commit_step x y) result }
 {
     let before = committed(c, x, y);
     let condition = commit_fails(c, x, y, before);
@@ -320,7 +320,7 @@ pub fn respond(c: Storage, t: usize, a: usize, v: u32) -> Stepped
     requires good { Good c }
     requires t_lt_threads { t < c.threads }
     requires a_lt_addresses { a < c.addresses }
-    ensures { Took c (respondStep t a v) result }
+    ensures { Took c (respond_step t a v) result }
 {
     let initial = c.initial[a];
     let found = propagated::latest(
@@ -341,7 +341,7 @@ pub fn respond(c: Storage, t: usize, a: usize, v: u32) -> Stepped
 fn acknowledge_fails(c: Storage, b: usize) -> u8
     requires good { Good c }
     requires b_lt_barriers { b < c.barriers }
-    ensures { result ≡ failing (state_of c) (acknowledgeStep b) }
+    ensures { result ≡ failing (state_of c) (acknowledge_step b) }
 {
     if c.unacknowledged[b] == 1 {
         let n = c.threads;
@@ -357,7 +357,7 @@ fn acknowledge_fails(c: Storage, b: usize) -> u8
 pub fn acknowledge(c: Storage, b: usize) -> Stepped
     requires good { Good c }
     requires b_lt_barriers { b < c.barriers }
-    ensures { Took c (acknowledgeStep b) result }
+    ensures { Took c (acknowledge_step b) result }
 {
     let condition = acknowledge_fails(c, b);
     let mut next = c;

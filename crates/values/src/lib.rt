@@ -6,7 +6,7 @@ ghost use Rattle.bits.specs.Bit.{bit};
 ghost use Rattle.model.specs.Limits.{most_threads, most_events};
 ghost use Rattle.rows.specs.Sets.{Set, Sets, order_in, set_in, store_in, applicable_in};
 ghost use Rattle.rows.specs.May.{may15, may16, may17, may18, must_read};
-ghost use Rattle.values.specs.Parts.{equal_in, thread_in, supplied, explained, overwritten, carried as carried_of, cumulative, must_read_of, reached as reachedOf, carried_on};
+ghost use Rattle.values.specs.Parts.{equal_in, thread_in, supplied, explained, overwritten, carried as carried_of, cumulative, must_read_of, reached as reached_of, carried_on};
 
 use case::Case;
 
@@ -593,7 +593,7 @@ fn reached(
 ) -> u64
     requires k_le_most_events { k ≤ most_events }
     requires by_index { (l : ℕ) → l < k → get_or threads.now l 0 < most_threads }
-    ensures { Set result (reachedOf k (set_in read.now) (thread_in threads.now) (order_in known.now) (bit set)) }
+    ensures { Set result (reached_of k (set_in read.now) (thread_in threads.now) (order_in known.now) (bit set)) }
 {
     let mut found: u64 = 0;
     for l in 0..k {
@@ -617,7 +617,7 @@ fn reached_from(
     requires p_lt_most_threads { p < most_threads }
     requires f_lt_k { f < k }
     requires by_index { (l : ℕ) → l < k → get_or threads.now l 0 < most_threads }
-    ensures { Set result (reachedOf k (set_in read.now) (thread_in threads.now) (order_in known.now) (λ s. bit stores s && bit own s && order_in known.now p f s)) }
+    ensures { Set result (reached_of k (set_in read.now) (thread_in threads.now) (order_in known.now) (λ s. bit stores s && bit own s && order_in known.now p f s)) }
 {
     let those = after_of(known, p, bits::both(stores, own), f);
     reached(read, threads, known, k, those)
