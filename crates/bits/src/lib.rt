@@ -1,4 +1,6 @@
 // A set of events as a number of 64 bits: event i is in the set where bit i is set.
+#![tactic(auto)]
+
 ghost use Rattle.std.specs.Prelude.{◌≡◌, ◌-◌, ◌^◌, ◌<◌, ◌≤◌};
 ghost use Rattle.std.specs.Int.Bits.{bit_and, bit_or};
 ghost use Rattle.bits.specs.Bit.{bit, width};

@@ -1,6 +1,6 @@
 -- Lists made of a function's values, and what holds of a list's elements.
 -- Assumes nothing.
-use Rattle.std.specs.Prelude.{ℕ, zero, suc, ◌+◌, Bool, true, ◌&&◌, List, [], ◌∷◌, ◌++◌}
+use Rattle.std.specs.Prelude.{ℕ, zero, suc, Bool, true, ◌&&◌, List, [], ◌∷◌, ◌++◌}
 
 -- f at i, i + 1 and so on, j of them
 unfoldable pub table : {A : Type 0} → (i j : ℕ) → (ℕ → A) → List A

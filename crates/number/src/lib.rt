@@ -1,4 +1,6 @@
 // A record's numbers: groups of seven bits, lowest group first, shortest form.
+#![tactic(auto)]
+
 ghost use Rattle.std.specs.Prelude.{◌≡◌, ◌+◌, ◌≤◌, ◌<◌, length};
 ghost use Rattle.number.specs.Number.{read_number, encode, widest, splice};
 ghost use Rattle.number.specs.Reader.{number_out, refusal_of, within, under};

@@ -1,4 +1,6 @@
 // The permutations of four labels, by their numbers in dictionary order.
+#![tactic(auto)]
+
 ghost use Rattle.std.specs.Prelude.{◌≡◌, ◌<◌};
 ghost use Rattle.permutation.specs.Permutation.{image as image_of, composite as composite_of, inverse as inverse_of, fits as fits_of, known as known_of, permutations};
 

@@ -5,27 +5,7 @@ use Rattle.finite.specs.Tests.{all}
 use Rattle.permutation.proofs.Table.{table_at}
 use Rattle.permutation.specs.Permutation.{words, image, least_from, numbered, composite, permutations}
 use Rattle.permutation.proofs.Laws.{composite-known}
-use borrow.Author.Rules.{rules}
-use Rattle.permutation.proofs.composite.Statement.{statement}
-use Rattle.permutation.proofs.composite.Tie as tie
-
-known-requires : tie.Need-known-requires
-known-requires c κs = search rules
-
-known-requires-2 : tie.Need-known-requires-2
-known-requires-2 c κs = search rules
-
-mul_wide : tie.Need-overflow-mul-wide
-mul_wide c = search rules
-
-add_wide : tie.Need-overflow-add-wide
-add_wide c = search rules
-
-array-read-wide : tie.Need-array-read-wide
-array-read-wide c = search rules
-
-wide-requires : tie.Need-wide-requires
-wide-requires c κs = search rules
+use Rattle.permutation.proofs.composite.Goals as goal
 
 composites : List ℕ
 composites =
@@ -54,24 +34,12 @@ composites =
     22 ∷ 16 ∷ 20 ∷ 10 ∷ 14 ∷ 8 ∷ 23 ∷ 17 ∷ 18 ∷ 4 ∷ 12 ∷ 2 ∷ 21 ∷ 11 ∷ 19 ∷ 5 ∷ 6 ∷ 0 ∷ 15 ∷ 9 ∷ 13 ∷ 3 ∷ 7 ∷ 1 ∷
     23 ∷ 17 ∷ 21 ∷ 11 ∷ 15 ∷ 9 ∷ 22 ∷ 16 ∷ 19 ∷ 5 ∷ 13 ∷ 3 ∷ 20 ∷ 10 ∷ 18 ∷ 4 ∷ 7 ∷ 1 ∷ 14 ∷ 8 ∷ 12 ∷ 2 ∷ 6 ∷ 0 ∷ []
 
-returns : tie.Need-returns
+pub returns : goal.returns
 unfolding composites composite numbered least_from image words all
 returns c =
-    let b = c.before.known2 in
-    let a = c.before.before.known in
+    let b = c.known-b in
+    let a = c.known-a in
     c.wide.ensures
     ∙ table_at permutations permutations composite composites tt a.result b.result a.ensures.1 b.ensures.1
     ∙ ap₂ composite a.ensures.0 b.ensures.0
     ∙ composite-known _ _
-
-pub composite-spec : {M : Type 1} → statement M
-composite-spec =
-    tie.close
-    (tie.spec
-    known-requires
-    known-requires-2
-    mul_wide
-    add_wide
-    array-read-wide
-    wide-requires
-    returns)

@@ -5,28 +5,14 @@ use Rattle.finite.specs.Tests.{all}
 use Rattle.permutation.proofs.Table.{line_at}
 use Rattle.permutation.specs.Permutation.{words, image, least_from, inverse, permutations}
 use Rattle.permutation.proofs.Laws.{inverse-known}
-use borrow.Author.Rules.{rules}
-use Rattle.permutation.proofs.inverse.Statement.{statement}
-use Rattle.permutation.proofs.inverse.Tie as tie
-
-known-requires : tie.Need-known-requires
-known-requires c κs = search rules
-
-array-read-wide : tie.Need-array-read-wide
-array-read-wide c = search rules
-
-wide-requires : tie.Need-wide-requires
-wide-requires c κs = search rules
+use Rattle.permutation.proofs.inverse.Goals as goal
 
 inverses : List ℕ
 inverses =
     0 ∷ 1 ∷ 2 ∷ 4 ∷ 3 ∷ 5 ∷ 6 ∷ 7 ∷ 12 ∷ 18 ∷ 13 ∷ 19 ∷ 8 ∷ 10 ∷ 14 ∷ 20 ∷ 16 ∷ 22 ∷ 9 ∷ 11 ∷ 15 ∷ 21 ∷ 17 ∷ 23 ∷ []
 
-returns : tie.Need-returns
+pub returns : goal.returns
 unfolding inverses inverse least_from image words all
 returns c =
-    let a = c.before.known in
+    let a = c.known-a in
     c.wide.ensures ∙ line_at permutations inverse inverses tt a.result a.ensures.1 ∙ ap inverse a.ensures.0 ∙ inverse-known _
-
-pub inverse-spec : {M : Type 1} → statement M
-inverse-spec = tie.close (tie.spec known-requires array-read-wide wide-requires returns)
