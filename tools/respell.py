@@ -68,6 +68,7 @@ def main():
     words = {}
     stated = {n for p in specs for n in defined(p)}
     proved = {n for p in own for n in defined(p)}
+    fields = {n for p in specs + own for each in re.findall(r"(?m)^ *(?:pub )?record .*\n(?:(?: +.*)?\n)*", read(p)) for n in re.findall(rf"(?m)^ +pub ({WORD}) :", each)}
     tokens = {t for p in specs + lemmas for t in re.findall(r"(?<!\.)(?<![^\s(){}.;,@\"«»\[\]\\])" + WORD, re.sub(r"(?m)^(?:pub )?use [^{\n]*|--.*", "", read(p)))}
     for t in tokens:
         if (t in stated or t in proved or "-" not in t) and without_camel(t) != t:
@@ -110,6 +111,8 @@ def main():
     for p in specs + lemmas + files(top, "src/**/*.rt", "must-fail/*.edit"):
         text = read(p)
 
+        # what a lemma gave its spelling to stays in files that don't name the lemma
+        cited = set(defined(p)) | {n for each in re.findall(r"use \S*\.proofs\.\S*\.\{([^}]*)\}", text) for n in re.findall(WORD, each)} if p in lemmas else set()
         # a source file's own short names for what it imports
         short = {n: snake(n) for n in re.findall(r" as ([a-z]\w*)[,}]", text) if CAMEL.fullmatch(n)} if p.endswith(".rt") else {}
         clash = [n for n in short if re.search(rf"[{{ ]{short[n]}[,}}]", text)]
@@ -119,12 +122,14 @@ def main():
 
         def respelled(found):
             n, behind_dot = found[0], text[found.start() - 1 : found.start()] == "."
+            if n in primed.get(p, {}) and not behind_dot:
+                return primed[p][n]
             # what stands behind a dot may be a function's module, or a field that a check makes, and a plain word in code a function
             if without_camel(n) == n and "-" not in n:
-                is_other = behind_dot or p.endswith(".rt")
+                is_other = behind_dot or n not in cited
             else:
-                is_other = behind_dot and "-" in n and n not in stated
-            return n if is_other else primed.get(p, {}).get(n) or words.get(n, short.get(n, n))
+                is_other = behind_dot and "-" in n and n not in stated | fields
+            return n if is_other else words.get(n, short.get(n, n))
 
         now = antt.sub(respelled, text)
         if now != text:
