@@ -86,7 +86,7 @@ module _ (c : Case) (H : Holds c) where
     where
       go : (x : Bool) → second c.edition ≡ x → cond x (length c.dependencies) 0 ≡ length c.dependencies
       go true e = refl
-      go false e = sym (ap length (H.no-links e))
+      go false e = sym (ap length (H.no_links e))
 
   links_back : links_of (link_count (held c).edition (held c).dependencies) (held c).class (held c).from (held c).to ≡ c.dependencies
   unfolding links_of held

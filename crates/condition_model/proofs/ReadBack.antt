@@ -90,7 +90,7 @@ module _ {s : List ℕ} where
       let whole : bs ≡ (letter ∷ []) ++ (decimal n ++ spaces g) = e ∙ rw z (ap (λ (l : List ℕ). letter ∷ (decimal n ++ l)) (append-nil (spaces g))) in
       let (A, B) = split (letter ∷ []) (decimal n ++ spaces g) (rw whole at P) in
       let (C, D) = split (decimal n) (spaces g) B in
-      rw (reads_number test n C h (behind_token g D E)) (ap (next n) (reads_spaces g D E.no-space))
+      rw (reads_number test n C h (behind_token g D E)) (ap (next n) (reads_spaces g D E.no_space))
 
   reads_valued : {at p : ℕ} {bs : List ℕ} (v : ℕ) (test : ℕ → Bool) → Part s at p bs → Padded ((equals ∷ []) ∷ decimal v ∷ []) bs → test v ≡ true → Ends (byte s p)
       → valued test s at ≡ next v p
@@ -102,7 +102,7 @@ module _ {s : List ℕ} where
       let (C, D) = split (spaces g) (decimal v ++ spaces h) B in
       let (F, G) = split (decimal v) (spaces h) D in
       rw (reads_sign equals A, reads_spaces g C (digit_first (decimal v) (spaces h) (decimal-digits v) (decimal_fit v) D), reads_number test v F t (behind_token h G E))
-      (ap (next v) (reads_spaces h G E.no-space))
+      (ap (next v) (reads_spaces h G E.no_space))
 
   reads_equation : {at p : ℕ} {bs : List ℕ} (letter a v : ℕ) (test values : ℕ → Bool) (make : ℕ → ℕ → Factor) → Part s at p bs → Padded (equation letter a v) bs
       → test a ≡ true → values v ≡ true → Ends (byte s p) → equation_by test values make s at ≡ next (make a v) p
@@ -218,7 +218,7 @@ module _ (w : Ranges) (s : List ℕ) where
         → term_by fuel w n s at ≡ next t p
     reads_T t n zero at p bs F P Q E l = absurd (omega arith)
     reads_T (a_factor f) n (suc k) at p bs F P Q E l =
-        joined-one slash backslash a_factor and_also (λ s at. factor_by k w n s at) (λ s at. term_by k w n s at) at p f (reads_F f n k at p bs F P Q E.ends (omega arith)) E.no-and
+        joined-one slash backslash a_factor and_also (λ s at. factor_by k w n s at) (λ s at. term_by k w n s at) at p f (reads_F f n k at p bs F P Q E.ends (omega arith)) E.no_and
     reads_T (and_also f t) n (suc k) at p bs F P Q E l =
         joined-more slash backslash a_factor and_also (λ s at. factor_by k w n s at) (λ s at. term_by k w n s at) at p f t (tokens_f f) (tokens_t t) bs P Q
         (λ q cs R L here m. reads_F f n k at q cs F.0 R L (rw here (record { no_space = refl; no_digit = refl })) (omega arith))
@@ -251,7 +251,7 @@ module _ (w : Ranges) (s : List ℕ) where
           reads_spaces Q.0 C (begins_C c L G),
           reads_C c n k at₁ (at₁ + length bs₁) bs₁ F G L ends (omega arith),
           reads_sign closing I,
-          reads_spaces R.0 J E.no-space,
+          reads_spaces R.0 J E.no_space,
         )
     reads_F (memory_is a v) n (suc k) at p bs F P Q E l = reads_memory n k at p bs a v P E F.1 Q F.0
     reads_F (load_is e v) n (suc k) at p bs F P Q E l = reads_load n k at p bs e v P E F.1 Q F.0

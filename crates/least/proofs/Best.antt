@@ -46,12 +46,12 @@ module _ (part : ℕ → List ℕ) (n : ℕ) where
     tried_next l after e = record { within = omega arith; best_so_far = subst (Best (λ q. fits q n) part (i + 1)) (sym e) (go (fits i n) (at_most (part best) (part i)) refl refl) }
       where
         go : (t x : Bool) → fits i n ≡ t → at_most (part best) (part i) ≡ x → Best (λ q. fits q n) part (i + 1) (cond (t && not x) i best)
-        go false x f g = best_kept (λ q. fits q n) part i best T.best-so-far (λ h. absurd (false≢true (sym f ∙ h)))
-        go true true f g = best_kept (λ q. fits q n) part i best T.best-so-far (λ h. g)
-        go true false f g = best_taken (λ q. fits q n) part i best T.best-so-far f g
+        go false x f g = best_kept (λ q. fits q n) part i best T.best_so_far (λ h. absurd (false≢true (sym f ∙ h)))
+        go true true f g = best_kept (λ q. fits q n) part i best T.best_so_far (λ h. g)
+        go true false f g = best_taken (λ q. fits q n) part i best T.best_so_far f g
 
     pub tried_all : permutations ≤ i → Best (λ q. fits q n) part permutations best
-    tried_all l = subst (λ (j : ℕ). Best (λ q. fits q n) part j best) (le_antisymm T.within l) T.best-so-far
+    tried_all l = subst (λ (j : ℕ). Best (λ q. fits q n) part j best) (le_antisymm T.within l) T.best_so_far
 
 -- ---- the parts of a struct are those of its case
 

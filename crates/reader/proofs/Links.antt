@@ -104,7 +104,7 @@ module _ (s : List ℕ) (at k total : ℕ) (good : Dependency → Bool) where
             → Stores (Links xs as' bs) (rising_dependencies k good total s at) (place.Refused f)
         links_stop f u =
             filling_stop _ _ _ _ _ _ _ h l (Links xs as' bs) f.number f.place
-            (λ ds c t. ap (λ (x : ℕ). rising_dependency k x good s p₀) (sym t.least-is) ∙ sym g ∙ ap link_out u)
+            (λ ds c t. ap (λ (x : ℕ). rising_dependency k x good s p₀) (sym t.least_is) ∙ sym g ∙ ap link_out u)
 
         module _ (v : code.Link) (p : ℕ) (u : r ≡ the.Link v p) where
           abbrev read : Dependency
@@ -139,7 +139,7 @@ module _ (s : List ℕ) (at k total : ℕ) (good : Dependency → Bool) where
               → LinksFilled (set xs i v.class) (set as' i v.from) (set bs i v.to) p (q + 1) (i + 1)
           links_next m q e =
               let j : i < most_dependencies = omega arith in
-              filling_next _ _ _ _ _ _ _ h l read p (λ ds c t. ap (λ (x : ℕ). rising_dependency k x good s p₀) (sym t.least-is) ∙ sym g ∙ ap link_out u)
+              filling_next _ _ _ _ _ _ _ h l read p (λ ds c t. ap (λ (x : ℕ). rising_dependency k x good s p₀) (sym t.least_is) ∙ sym g ∙ ap link_out u)
               (Linked k (set xs i v.class) (set as' i v.from) (set bs i v.to) (q + 1))
               (λ ds c t. record {
                 links = record {

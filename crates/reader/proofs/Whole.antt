@@ -267,7 +267,7 @@ module _ (s : List ℕ) (r : Reading) (e : r ≡ reading_of (read s)) where
   name_in_record = named.within
 
   pub name-part_is : ◌≡◌ {A = NamePart} (record { at = r.length - r.case.namelength; length = r.case.namelength }) (part_of (name_part (read s)))
-  name-part_is = named.part-is
+  name-part_is = named.part_is
 
 -- the part's bounds
 part_in_of : (s : List ℕ) (o : Out Case) → Outcome (λ c p. AtEnd s c.name p) 0 o → (name_part o).at + (name_part o).length ≤ length s

@@ -48,7 +48,7 @@ unfolding coherent address
 ordered_stays s t w c O = record {
   transitive = λ x y z. rw c (O.transitive x y z);
   irreflexive = λ x. rw c (O.irreflexive x);
-  one-address = λ x y. rw (c, w) (O.one_address x y);
+  one_address = λ x y. rw (c, w) (O.one_address x y);
   seen = λ x y. rw (c, w) (O.seen x y);
 }
 
@@ -165,7 +165,7 @@ module _ (s : State) (S : Sound s) where
       ordered = record {
         transitive = λ y z w h g. co₁ y w ∙ closure-transitive (suc (writes_seen s)) edges y z w (sym (co₁ y z) ∙ h) (sym (co₁ z w) ∙ g);
         irreflexive = λ y h. ⊎_elim (S.ordered.irreflexive y) (λ g. omega (arith, g.0, g.1)) (old_is y y h);
-        one-address = λ y z h.
+        one_address = λ y z h.
             closure-least (suc (writes_seen s)) edges (λ y z. address s₁ y ≡ address s₁ z) (λ y z _ _ g. address-edge y z g) (λ y z w p q. p ∙ q) y z (sym (co₁ y z) ∙ h);
         seen = within₁;
       };
@@ -312,7 +312,7 @@ module _ (s : State) (S : Sound s) where
       ordered = record {
         transitive = λ a b c h g. co₅ a c ∙ closure-transitive (writes_seen s) edges₅ a b c (sym (co₅ a b) ∙ h) (sym (co₅ b c) ∙ g);
         irreflexive = λ a h. no_cycle₅ a (sym (co₅ a a) ∙ h);
-        one-address = λ a b h. unfold effect address in
+        one_address = λ a b h. unfold effect address in
             closure-least (writes_seen s) edges₅ (λ a b. address s a ≡ address s b) (λ a b _ _ g. address_edge₅ a b g) (λ a b c p q. p ∙ q) a b (sym (co₅ a b) ∙ h);
         seen = λ a b h. unfold effect in closure-within (writes_seen s) edges₅ a b (sym (co₅ a b) ∙ h);
       };
@@ -376,7 +376,7 @@ sound-initial n initials = record {
   ordered = unfold initial coherent related in record {
     transitive = λ a b c h g. h;
     irreflexive = λ a h. false≢true h;
-    one-address = λ a b h. absurd (false≢true h);
+    one_address = λ a b h. absurd (false≢true h);
     seen = λ a b h. absurd (false≢true h);
   };
   lists = λ t. unfold initial events in subst (λ (l : List Event). Listed (initial n initials) l) (sym (no_events n t)) (listed-none (initial n initials));

@@ -15,7 +15,7 @@ pub record Ordered (s : State) : Type 0 where
   -- with `transitive`: there is no cycle
   pub irreflexive : (a : ℕ) → coherent s a a ≡ true → ⊥
   -- 002, 4.2: "It does not relate writes to different addresses"
-  pub one-address : (a b : ℕ) → coherent s a b ≡ true → address s a ≡ address s b
+  pub one_address : (a b : ℕ) → coherent s a b ≡ true → address s a ≡ address s b
   -- "or relate any write that has not been seen by the storage subsystem to any write"
   pub seen : (a b : ℕ) → coherent s a b ≡ true → (a < writes_seen s) × (b < writes_seen s)
 

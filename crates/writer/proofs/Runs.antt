@@ -72,13 +72,13 @@ module _ (f : ℕ → ℕ) (n : ℕ) where
     pub one_summed : i < n → (x : ℕ) → x ≡ f i → f i ≤ n → Summed f n (total + x) (i + 1)
     one_summed l x e b = record {
       within = omega arith;
-      total_is = ap₂ (λ (a b : ℕ). a + b) s.total-is e ∙ sym (sum_more f i);
+      total_is = ap₂ (λ (a b : ℕ). a + b) s.total_is e ∙ sym (sum_more f i);
       few = let z : (i + 1) * n ≡ i * n + n = add-mul i 1 n ∙ ap (λ (x : ℕ). i * n + x) (one-mul n) in omega (arith, s.few);
     }
 
     pub all_summed : (room : ℕ) → n ≤ room → n ≤ i → (total ≡ sum f n) × (total ≤ room * room)
     all_summed room r l = (
-      s.total-is ∙ ap (sum f) (le_antisymm s.within l),
+      s.total_is ∙ ap (sum f) (le_antisymm s.within l),
       le_trans s.few (le_trans (mul-le-mul_right n (le_trans s.within r)) (mul-le-mul_left room r)),
     )
 
