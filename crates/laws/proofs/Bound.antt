@@ -18,7 +18,7 @@ use Rattle.number.specs.Number.{encode_by, encode, Bytes}
 use Rattle.codec.proofs.Few.{Few, ◌then◌, few_up_to, few-each}
 use Rattle.model.specs.Limits.{most_edition, second, most_threads, most_addresses, most_events, most_dependencies, most_value, most_name}
 use Rattle.model.specs.Case.{Case, Event, Dependency, no_event, load, store, most_kind, bare, by_address, most_class}
-use Rattle.model.specs.Record.{Pair, dependency_good, dependency_rank, least_after, store_to}
+use Rattle.model.specs.Record.{Pair, rank, dependency_good, dependency_rank, least_after, store_to}
 use Rattle.model.specs.Written.{event_bytes, dependency_bytes, dependencies_bytes, pair_bytes, rows_pairs, order_bytes, record_of}
 use Rattle.model.specs.Bound.{size, most_event_bytes, most_order_bytes, most_dependency_bytes, least_loads, most_link_bytes, most_bytes}
 use Rattle.model.specs.Fits.{EventFits, DependenciesFit, WriteFits, WritesFit, Fits}
@@ -284,7 +284,7 @@ few-order k rows h e =
     go : (least : ℕ) (ps : List Pair) → Rising k least ps → All (λ p. Few (pair_bytes p) (size (most_events - 1) + size (most_events - 1))) ps
     go least [] r = tt
     go least (p ∷ ps) r =
-        (few_up_to p.a (most_events - 1) (omega (arith, r.0)) then few_up_to p.b (most_events - 1) (omega (arith, r.1)), go _ ps r.3)
+        (few_up_to p.a (most_events - 1) (omega (arith, r.0)) then few_up_to p.b (most_events - 1) (omega (arith, r.1)), go (rank k p + 1) ps r.3)
 
 -- ---- the record
 

@@ -75,7 +75,7 @@ folded_rows k o (p ∷ ps) = folded_rows k (with_pair k o p) ps
 
 put-append : (rows : List ℕ) (ps qs : List Pair) → put_rows rows (ps ++ qs) ≡ put_rows (put_rows rows ps) qs
 put-append rows [] qs = refl
-put-append rows (p ∷ ps) qs = put-append _ ps qs
+put-append rows (p ∷ ps) qs = put-append (set rows p.a (bit_or (get_or rows p.a 0) (2 ^ p.b))) ps qs
 
 step : (row b : ℕ) → row % 2 ^ suc b ≡ (row / 2 ^ b % 2) * 2 ^ b + row % 2 ^ b
 step row b = subst (λ (j : ℕ). row % 2 ^ j ≡ (row / 2 ^ b % 2) * 2 ^ b + row % 2 ^ b) (one-add b) (mod-pow-add row 1 b)
