@@ -13,7 +13,7 @@ ghost use Rattle.case.specs.Stores.{store_at, writes_at};
 
 // Its fields and their order are those of litmus_case in include/litmus.h.
 #[repr(C)]
-#[derive(Drop)]
+#[derive(Clone, Copy)]
 pub struct Case {
     pub edition: usize,
     // how many threads, addresses and events
