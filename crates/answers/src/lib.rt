@@ -14,7 +14,7 @@ use case::Case;
 // place is where a faulty number starts, a name's first byte that is not printable, or a flag, the length that of the record or
 // how many stores were made, and the finals are the final memory by address. Fields that an answer doesn't speak of are 0.
 #[repr(C)]
-#[derive(Drop)]
+#[derive(Clone, Copy)]
 pub struct Answer {
     pub number: u32,
     pub place: usize,

@@ -25,7 +25,7 @@ const UNREPAIRED: u8 = 8;
 // What stands at a place of an area. Where it is a finished frame, its record begins at `at` and has `length` bytes. Where it is none, the
 // log has ended there, and `number` and `place` are its own fault, 0 if it has none. The other fields are 0.
 #[repr(C)]
-#[derive(Drop)]
+#[derive(Clone, Copy)]
 pub struct Frame {
     pub number: u32,
     pub ended: bool,
@@ -84,7 +84,7 @@ pub fn next_frame(area: &[u8], at: usize) -> Frame
 }
 
 // How an area's log ends: its own fault, 0 if it has none, and that one's place; and the place behind the last finished frame.
-#[derive(Drop)]
+#[derive(Clone, Copy)]
 pub struct End {
     pub number: u32,
     pub place: usize,

@@ -19,7 +19,7 @@ use condition_reader::ConditionRead;
 // The answer of judging, or the refusal of the text where the case is accepted; and whether the condition holds, 1 or 0, which is 0 under
 // every number but 0.
 #[repr(C)]
-#[derive(Drop)]
+#[derive(Clone, Copy)]
 pub struct ConditionAnswer {
     pub number: u32,
     pub place: usize,

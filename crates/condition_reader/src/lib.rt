@@ -48,14 +48,14 @@ const TILDE: u64 = 126;
 const END: u64 = 256;
 
 // The truth of what was read and the place behind it, or a refusal and its place.
-#[derive(Drop)]
+#[derive(Clone, Copy)]
 pub enum ConditionRead {
     Truth(bool, usize),
     Refused(u8, usize),
 }
 
 // The sign between operands: none, or the place of the next operand, or a refusal and its place.
-#[derive(Drop)]
+#[derive(Clone, Copy)]
 pub enum Sign {
     Absent,
     Next(usize),

@@ -9,7 +9,7 @@ use crate::text::{say, say_number};
 use case::Case;
 
 // How far an input is judged.
-#[derive(Drop)]
+#[derive(Clone, Copy)]
 pub struct Progress {
     // the bytes of the buffer from `at` up to `have` are still to be judged
     pub at: usize,

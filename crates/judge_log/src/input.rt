@@ -8,7 +8,7 @@ use litmus::Tally;
 use stream::Got;
 
 // How far a log is judged.
-#[derive(Drop)]
+#[derive(Clone, Copy)]
 pub struct Progress {
     // the bytes of the buffer from `at` up to `have` were not judged yet, and begin at this place of the log
     pub at: usize,

@@ -36,7 +36,7 @@ pub use traces::TraceAnswer;
 
 // An answer and its case, which is `Case::empty()` where it was refused.
 #[repr(C)]
-#[derive(Drop)]
+#[derive(Clone, Copy)]
 pub struct CaseAnswer {
     pub answer: Answer,
     pub case: Case,
@@ -44,7 +44,7 @@ pub struct CaseAnswer {
 
 // A part of a record: where it starts and how many bytes it has.
 #[repr(C)]
-#[derive(Drop)]
+#[derive(Clone, Copy)]
 pub struct Part {
     pub at: usize,
     pub length: usize,

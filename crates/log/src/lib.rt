@@ -16,7 +16,7 @@ const ENDS: u32 = 1;
 const FULL: u32 = 6;
 
 // A record's verdict under PPCs and its length; or its refusal and the place, with length 0.
-#[derive(Drop)]
+#[derive(Clone, Copy)]
 pub struct Judged {
     pub number: u32,
     pub place: usize,
@@ -54,7 +54,7 @@ fn judge_record(bytes: &[u8], from: usize) -> Judged
 
 // How far the records of some bytes are judged: the bytes that they took, and whether there may be another behind them. If not, the
 // refusal of what lies there and its place, or 6 and 0 where a count is full; else 1, as if the bytes ended there.
-#[derive(Drop)]
+#[derive(Clone, Copy)]
 pub struct Step {
     pub going: bool,
     pub judged: usize,
@@ -129,7 +129,7 @@ fn judge_records(bytes: &[u8], tally: &mut Tally) -> Step
 // What a call answers that judges the records of some bytes of a log: whether the log has ended, by which refusal, 0 if by none, and at
 // which place from the log's start; and how many of the bytes were judged. Those behind them have to come again, before any others.
 #[repr(C)]
-#[derive(Drop)]
+#[derive(Clone, Copy)]
 pub struct LogAnswer {
     pub number: u32,
     pub ended: bool,
@@ -192,14 +192,14 @@ pub fn judge_log(bytes: &[u8], from: u64, last: bool, tally: &mut Tally) -> LogA
 }
 
 // An answer, and the tally with the records that were judged.
-#[derive(Drop)]
+#[derive(Clone, Copy)]
 pub struct JudgedLog {
     pub answer: LogAnswer,
     pub tally: Tally,
 }
 
 // A step, and the tally there.
-#[derive(Drop)]
+#[derive(Clone, Copy)]
 pub struct Turn {
     pub step: Step,
     pub tally: Tally,

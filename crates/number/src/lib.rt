@@ -9,14 +9,14 @@ ghost use Rattle.number.specs.Reader.{number_out, refusal_of, within, under};
 pub const GROUPS: usize = 5;
 
 // What reading a number finds: the number and where the next one starts, or a refusal and where this one starts.
-#[derive(Drop)]
+#[derive(Clone, Copy)]
 pub enum NumberRead {
     Number(u32, usize),
     Refused(u8, usize),
 }
 
 // A refusal and its place.
-#[derive(Drop)]
+#[derive(Clone, Copy)]
 pub struct Refusal {
     pub number: u8,
     pub place: usize,

@@ -13,7 +13,7 @@ use case::Case;
 use number::{NumberRead, Refusal};
 
 // What reading a record gives: 0, the record's length and its case; or a refusal, its place and the empty case.
-#[derive(Drop)]
+#[derive(Clone, Copy)]
 pub struct Reading {
     pub number: u8,
     pub place: usize,
@@ -22,13 +22,13 @@ pub struct Reading {
 }
 
 // Where a record's name stands in it, and the name's length.
-#[derive(Drop)]
+#[derive(Clone, Copy)]
 pub struct NamePart {
     pub at: usize,
     pub length: usize,
 }
 
-#[derive(Drop)]
+#[derive(Clone, Copy)]
 pub struct Event {
     pub kind: u8,
     pub thread: u8,
@@ -37,7 +37,7 @@ pub struct Event {
 }
 
 // A dependency: its class, and the events that it goes from and to.
-#[derive(Drop)]
+#[derive(Clone, Copy)]
 pub struct Link {
     pub class: usize,
     pub from: usize,
@@ -45,7 +45,7 @@ pub struct Link {
 }
 
 // Where a run of a row's pairs ends: the next place, the least event that may follow in the row, the row, and how many pairs are left.
-#[derive(Drop)]
+#[derive(Clone, Copy)]
 pub struct Run {
     pub place: usize,
     pub low: usize,
@@ -54,7 +54,7 @@ pub struct Run {
 }
 
 // The edition, and how many threads and addresses.
-#[derive(Drop)]
+#[derive(Clone, Copy)]
 pub struct Head {
     pub edition: usize,
     pub threads: usize,
@@ -62,42 +62,42 @@ pub struct Head {
 }
 
 // An event and the next place, or a refusal.
-#[derive(Drop)]
+#[derive(Clone, Copy)]
 pub enum EventRead {
     Event(Event, usize),
     Refused(Refusal),
 }
 
 // A dependency and the next place, or a refusal.
-#[derive(Drop)]
+#[derive(Clone, Copy)]
 pub enum LinkRead {
     Link(Link, usize),
     Refused(Refusal),
 }
 
 // A pair's two events and the next place, or a refusal.
-#[derive(Drop)]
+#[derive(Clone, Copy)]
 pub enum PairRead {
     Pair(usize, usize, usize),
     Refused(Refusal),
 }
 
 // The next place, or a refusal, where what was read is stored.
-#[derive(Drop)]
+#[derive(Clone, Copy)]
 pub enum PlaceRead {
     Next(usize),
     Refused(Refusal),
 }
 
 // The same with a count that was read.
-#[derive(Drop)]
+#[derive(Clone, Copy)]
 pub enum CountRead {
     Count(usize, usize),
     Refused(Refusal),
 }
 
 // A record's head and the next place, or a refusal.
-#[derive(Drop)]
+#[derive(Clone, Copy)]
 pub enum HeadRead {
     Head(Head, usize),
     Refused(Refusal),
@@ -931,7 +931,7 @@ fn read_record(bytes: &[u8], at: usize) -> Reading
 }
 
 // Bytes that records lie in, and the place of the record to be read.
-#[derive(Drop)]
+#[derive(Clone, Copy)]
 pub struct Reader<'a> {
     pub bytes: &'a [u8],
     pub place: usize,

@@ -196,7 +196,7 @@ fn links(xs: &[u8], i: usize) -> [u8; Case::MOST_DEPENDENCIES]
 }
 
 // A case's dependencies, and zeros.
-#[derive(Drop)]
+#[derive(Clone, Copy)]
 pub struct Kept {
     pub dependencies: usize,
     pub class: [u8; Case::MOST_DEPENDENCIES],

@@ -8,7 +8,7 @@ use answers::Answer;
 
 // Which of two records is the lesser, 1 or 2, and how many bytes it has; 0 and 0 where either can't be read.
 #[repr(C)]
-#[derive(Drop)]
+#[derive(Clone, Copy)]
 pub struct Choice {
     pub which: u32,
     pub length: usize,

@@ -16,7 +16,7 @@ use case::Case;
 
 // The sets of a case's events: those of each thread; loads, stores, barriers and, of these, syncs; and by event those that use
 // its address and those that depend on it.
-#[derive(Drop)]
+#[derive(Clone, Copy)]
 pub struct EventSets {
     pub own: [u64; Case::MOST_THREADS],
     pub loads: u64,

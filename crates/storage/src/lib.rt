@@ -6,7 +6,7 @@ use case::Case;
 
 // Its fields and their order are those of litmus_storage in include/litmus.h, where class is barrier_class.
 #[repr(C)]
-#[derive(Drop)]
+#[derive(Clone, Copy)]
 pub struct Storage {
     // how many threads and addresses
     pub threads: usize,

@@ -3,7 +3,7 @@ ghost use Rattle.std.specs.Prelude.{◌≡◌, ◌&&◌, ◌-◌, ◌<◌, eqb, 
 ghost use Rattle.stream.specs.Kept.{Kept, moved_up, got_by, ReadOn};
 
 // What one read came to: how many bytes the buffer holds now; whether the input has ended; whether it can't be read.
-#[derive(Drop)]
+#[derive(Clone, Copy)]
 pub struct Got {
     pub have: usize,
     pub ended: bool,

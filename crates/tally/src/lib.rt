@@ -5,7 +5,7 @@ ghost use Rattle.tally.specs.Tally.{rules, zeros, adding};
 
 // Its fields and their order are those of litmus_tally in include/litmus.h.
 #[repr(C)]
-#[derive(Drop)]
+#[derive(Clone, Copy)]
 pub struct Tally {
     pub records: u32,
     pub accepted: u32,
@@ -35,7 +35,7 @@ impl Tally {
 }
 
 // A tally, and 0 if a record was added to it, else why not.
-#[derive(Drop)]
+#[derive(Clone, Copy)]
 pub struct Addition {
     pub number: u8,
     pub tally: Tally,

@@ -16,7 +16,7 @@ use storage::Storage;
 
 // A trace. Its fields and their order are those of litmus_steps in include/litmus.h.
 #[repr(C)]
-#[derive(Drop)]
+#[derive(Clone, Copy)]
 pub struct Trace {
     // how many threads and addresses
     pub threads: usize,
@@ -33,7 +33,7 @@ pub struct Trace {
 
 // What reading a trace gives: 0, the trace's length in bytes and the trace; or a refusal, its place and the empty trace.
 #[repr(C)]
-#[derive(Drop)]
+#[derive(Clone, Copy)]
 pub struct TraceReading {
     pub number: u32,
     pub place: usize,
@@ -42,7 +42,7 @@ pub struct TraceReading {
 }
 
 // A step: its kind and its fields, 0 for those that the kind does not have.
-#[derive(Drop)]
+#[derive(Clone, Copy)]
 pub struct Step {
     pub kind: u8,
     pub first: u8,
@@ -51,7 +51,7 @@ pub struct Step {
 }
 
 // A step and the next place, or a refusal.
-#[derive(Drop)]
+#[derive(Clone, Copy)]
 pub enum StepRead {
     Step(Step, usize),
     Refused(Refusal),

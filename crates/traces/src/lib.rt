@@ -17,7 +17,7 @@ const NOT_ENABLED: u32 = 31;
 
 // The answer about a trace. Its fields and their order are those of litmus_trace_answer in include/litmus.h, which says what each holds.
 #[repr(C)]
-#[derive(Drop)]
+#[derive(Clone, Copy)]
 pub struct TraceAnswer {
     pub number: u32,
     pub condition: u32,

@@ -14,7 +14,7 @@ use case::Case;
 use storage::Storage;
 
 // What a step gives: the first of its conditions that fails, or 0 and the state behind it.
-#[derive(Drop)]
+#[derive(Clone, Copy)]
 pub struct Stepped {
     pub condition: u8,
     pub next: Storage,

@@ -12,7 +12,7 @@ ghost use Rattle.writer.specs.Stored.{stored_of};
 use case::Case;
 
 // 0 and the record's length, or 6 and 0.
-#[derive(Drop)]
+#[derive(Clone, Copy)]
 pub struct Written {
     pub number: u8,
     pub length: usize,

@@ -1,0 +1,12 @@
+-- `case::dependencies_fault` meets its contract. Assumes nothing.
+use borrow.Author.Rules.{rules}
+use Rattle.case.proofs.Means.{many_links, those_links}
+use Rattle.case.proofs.dependencies_fault.Goals as goal
+
+pub returns-then-count-gt-MOST_DEPENDENCIES : goal.returns-then-count-gt-MOST_DEPENDENCIES
+returns-then-count-gt-MOST_DEPENDENCIES c =
+    search many_links
+
+pub returns : goal.returns
+returns c =
+    search those_links

@@ -1,0 +1,24 @@
+-- `case::events_good` meets its contract. Assumes nothing.
+use Prim.Native.Nat.{◌-◌}
+use borrow.Author.Rules.{rules}
+use lib.ListN.{get_or}
+use Rattle.finite.proofs.Loops.{Passed, begun, fails, passes, ends}
+use Rattle.model.specs.Fault.{event_good}
+use Rattle.case.specs.Held.{event_of}
+use Rattle.case.proofs.events_good.Goals as goal
+
+pub loop-e-init : goal.loop-e-init
+loop-e-init c =
+    begun
+
+pub returns-then-not-event_good : goal.returns-then-not-event_good
+returns-then-not-event_good c =
+    search fails
+
+pub loop-e-preserved : goal.loop-e-preserved
+loop-e-preserved c =
+    search passes
+
+pub returns : goal.returns
+returns c =
+    search ends

@@ -1,0 +1,12 @@
+-- `case::links_fault` meets its contract. Assumes nothing.
+use Prim.Native.Nat.{◌-◌}
+use borrow.Author.Rules.{rules}
+use Rattle.case.specs.Held.{good_at}
+use Rattle.case.proofs.Links.{Linking, linking_begun, linking_done, linking_found, linking_class, linking_from, linking_to, linking_fits, linking_next}
+use Rattle.case.proofs.links_fault.Given as goal
+
+abbrev pub invariant-loop-i : goal.invariant-loop-i
+invariant-loop-i l = Linking l.k (good_at l.k l.kinds l.owners) l.classes l.froms l.tos l.count l.least l.i
+
+abbrev pub decreases-loop-i : goal.decreases-loop-i
+decreases-loop-i l = l.count - l.i

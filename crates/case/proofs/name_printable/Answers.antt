@@ -1,0 +1,23 @@
+-- `case::name_printable` meets its contract. Assumes nothing.
+use Prim.Native.Nat.{◌-◌}
+use borrow.Author.Rules.{rules}
+use lib.ListN.{get_or}
+use Rattle.finite.proofs.Loops.{Passed, begun, fails, passes, ends}
+use Rattle.model.specs.Case.{printable}
+use Rattle.case.proofs.name_printable.Goals as goal
+
+pub loop-i-init : goal.loop-i-init
+loop-i-init c =
+    begun
+
+pub returns-then-not-printable : goal.returns-then-not-printable
+returns-then-not-printable c =
+    search fails
+
+pub loop-i-preserved : goal.loop-i-preserved
+loop-i-preserved c =
+    search passes
+
+pub returns : goal.returns
+returns c =
+    search ends

@@ -1,0 +1,8 @@
+-- `case::printable` meets its contract. Assumes nothing.
+use borrow.Author.Rules.{rules}
+use Rattle.case.proofs.Tested.{of_name}
+use Rattle.case.proofs.printable.Goals as goal
+
+pub returns : goal.returns
+returns c =
+    search of_name
