@@ -33,7 +33,7 @@ module _ {M : Type 1} {𝓤 : Ura M} (𝓛 : Logic 𝓤) (ℓ : Lifetime) (κ : 
   reads =
       qed 𝓛 (‵ own ∷ ‵ (flft κ q) ∷ []) {P = H.⇛ (guard 𝓤 Fit (sep 𝓤 (sem 𝓛 own) (A.lft κ q)))} (
       updating ! $ fsplit ! $ fsplit ! $ drop ! $ fjoin ! $
-      use2 𝓛 (later (given Fit (‵ (OwnH 𝓛 (f_int w8) κ q x.ref_ptr.0 x.ref_ptr.1 x.ghost_name x.now) ⊛ ‵ (flft κ q)))) (shs_known 𝓛 (f_int w8) κ q x.ref_ptr.0 x.ref_ptr.1 x.ghost_name x.now) $
+      use2 𝓛 (later (given Fit (‵ (OwnH 𝓛 (f_int w8) κ q x.ref_ptr.0 x.ref_ptr.1 x.now) ⊛ ‵ (flft κ q)))) (shs_known 𝓛 (f_int w8) κ q x.ref_ptr.0 x.ref_ptr.1 x.now) $
       await ! tt $ learn ! (λ a. split ! $ fsplit ! $ feq_i ! (List Val) (slice_val x.ref_ptr (length x.now) ∷ []) (slice_val x.ref_ptr (length x.now) ∷ []) refl $ fjoin ! $ fjoin ! $ now ! $ check ! a $ done !))
 
   pub octets : {K : Type 0} → K → {Γ : List (Item 𝓤)} {G : Goal 𝓤 H} → Soaks G → (((i : ℕ) → Fits w8 (get_or x.now i 0)) → Seq K 𝓛 (‵ own ∷ ‵ (flft κ q) ∷ Γ) G) → Seq K 𝓛 (‵ own ∷ ‵ (flft κ q) ∷ Γ) G

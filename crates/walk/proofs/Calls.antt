@@ -4,7 +4,7 @@ use mathlib.Core.Path.{◌≡◌, sym, ap, subst}
 use Prim.Native.Nat.{ℕ, zero, suc}
 use mathlib.Core.List.{List, [], ◌∷◌}
 use seplogic.Ra.Ura.{Ura}
-use mir.Syntax.{Name, Opd as Operand, Place, Body, seq, call}
+use mir.Syntax.{Callee, Opd as Operand, Place, Body, seq, call}
 use mir.Val.{Val}
 use base.Logic.{ent, id⊢, mono_r}
 use base.Fml.{Lft, Share, ftrue, flft}
@@ -105,13 +105,13 @@ module _ {M : Type 1} {𝓤 : Ura M} {𝓛 : Logic 𝓤} (s : Told 𝓛) where
 
   answers : {K : Type 0} {Γ : List (Item 𝓤)} → K → (G : Val → Goal 𝓤 H) → ((v : Val) → Soaks (G v)) → (Known → Seq K 𝓛 (After Γ) (G value)) → (v : Val) → Seq K 𝓛 (raw (agreed.post s.bound v) ∷ Γ) (G v)
   answers {K} {Γ} t G z k v =
-      use1 𝓛 (later (some (λ (r : R.Denot). (raw (alive 𝓛 s.fn.signature s.bound.0.0 s.bound.0.1) ⊛ ‵ (R.own r (v ∷ [])))
+      use1 𝓛 (later (some (λ (r : R.Denot). (raw (alive 𝓛 s.fn.signature s.bound.0.0 s.bound.0.1) ⊛ ‵ (R.own_val r (v ∷ [])))
       ⊛ some (λ (ws : Ws). said ws ⊛ raw ((s.clauses s.bound.0.0 s.bound.0.3).ensures s.bound.1 r (at_exit s.fn s.bound.0.0 s.bound.0.3 ws)))))) (id⊢ 𝓤 _) $
       await t (z v) $ pick t (λ r. split t $ move t (1 ∷ []) $ pick t (λ ws. split t $ move t (1 ∷ []) $ use1 𝓛 (raw (fact 𝓤 (s.φ r ws))) (s.ensures r ws) $ heard t (s.φ r ws) (λ f.
       move t (1 ∷ []) $ split t $ move t (1 ∷ []) $ facts t R (Is R) (shows 𝓛 R) r (v ∷ []) (λ own.
       use1 𝓛 held (tokens_in 𝓛 s.fn.signature.lifetimes s.bound.0.0 s.bound.0.1) $ settled G v k r ws (s.is r ws f) own))))
 
-module _ {M : Type 1} {𝓤 : Ura M} {𝓛 : Logic 𝓤} {K : Type 0} {Γ : List (Item 𝓤)} {E : Env 𝓤 𝓛.H} {C : Calls 𝓤 𝓛.H} {Λ : Loops 𝓤 𝓛.H} {q : Post 𝓤 𝓛.H} {f : Name} {xs : List Operand} {d : Place} where
+module _ {M : Type 1} {𝓤 : Ura M} {𝓛 : Logic 𝓤} {K : Type 0} {Γ : List (Item 𝓤)} {E : Env 𝓤 𝓛.H} {C : Calls 𝓤 𝓛.H} {Λ : Loops 𝓤 𝓛.H} {q : Post 𝓤 𝓛.H} {f : Callee} {xs : List Operand} {d : Place} where
   open 𝓛 use {H}
 
   pub calls_told : K → FmC 𝓤 H 𝓛.laws C → {rest : Body} (s : Told 𝓛) → Triple 𝓤 (C f) (agreed s) → Opds K 𝓛 (asked s ∷ Γ) E xs ((agreed s).args s.bound)

@@ -4,7 +4,7 @@ use mathlib.Core.Path.{◌≡◌, refl, subst}
 use Prim.Native.Nat.{ℕ, zero, ◌<◌, ◌^◌}
 use mathlib.Core.List.{List, [], ◌∷◌}
 use seplogic.Ra.Ura.{Ura}
-use seplogic.Ra.TreeShare.{full_share}
+use base.Fraction.{full_share}
 use mir.Syntax.{Lifetime, Width, Ty, place, copy}
 use mir.Val.{Val, vint, vptr, bits}
 use base.Logic.{SProp, ent, sep, id⊢, via, mono∗, mono_r, assoc'}
@@ -52,7 +52,7 @@ module _ {M : Type 1} {𝓤 : Ura M} {𝓛 : Logic 𝓤} {K : Type 0} {Γ : List
 
   module _ {G : Goal 𝓤 H} where
     -- a plain struct, or a number, is owned for nothing
-    pub made : K → (D : Declared) → Plains (fields D) → (x : D.D) {vs : List Val} → Is (row D) x vs → Step K 𝓛 (‵ ((row D).own x vs) ∷ Γ) G Γ G
+    pub made : K → (D : Declared) → Plains (fields D) → (x : D.D) {vs : List Val} → Is (row D) x vs → Step K 𝓛 (‵ ((row D).own_val x vs) ∷ Γ) G Γ G
     made t D pl x {vs} is = owned t (row D) (Is (row D)) (LL.makes D pl 𝓛) x vs is
 
     pub made_uint : K → (w : Width) (x : ℕ) → x < 2 ^ bits w → Step K 𝓛 (‵ ((UInt w).own_val x (vint w x ∷ [])) ∷ Γ) G Γ G
@@ -77,7 +77,7 @@ module _ {M : Type 1} {𝓤 : Ura M} (𝓛 : Logic 𝓤) (D : Declared) (L : LL.
   unfolding part_of
   lies is =
       qed 𝓛 (cell ∷ []) ∵ use1 𝓛 (‵ (cell_at full_share (row D).mir (LL.vals D L x) b 0)) (𝓛.laws.at_raw full_share (layout (shape D)) b 0 (LL.val D L x)) $
-      made ! D pl x is $ move ! (1 ∷ 0 ∷ []) $ fjoin ! $ fpack ! (List Val) (λ vs. fsep (cell_at full_share (row D).mir vs b 0) ((row D).own x vs)) (LL.vals D L x) $ done !
+      made ! D pl x is $ move ! (1 ∷ 0 ∷ []) $ fjoin ! $ fpack ! (List Val) (λ vs. fsep (cell_at full_share (row D).mir vs b 0) ((row D).own_val x vs)) (LL.vals D L x) $ done !
 
   module _ {K : Type 0} {Γ : List (Item 𝓤)} {G : Goal 𝓤 H} (k : K) (z : Soaks G) where
     pub lends_local : (ℓ : Lifetime) → Is (row D) x (LL.vals D L x) → ((δ : GName) → Seq K 𝓛 (lent ℓ δ ∷ lender δ ∷ Γ) G) → Seq K 𝓛 (cell ∷ Γ) G
