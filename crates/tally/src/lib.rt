@@ -1,4 +1,6 @@
 // The tally of a log: how many records were judged, how many of them accepted, and by rule for how many it is the lowest that they break.
+#![tactic(auto)]
+
 ghost use Rattle.std.specs.Prelude.{◌≡◌, ◌+◌, ◌<◌};
 ghost use Rattle.model.specs.Rules.{first_rule};
 ghost use Rattle.tally.specs.Tally.{rules, zeros, adding};
