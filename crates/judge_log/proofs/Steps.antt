@@ -22,8 +22,8 @@ use Rattle.log_model.specs.Pieces.{Answer, judge_log, Fed, going, over, followin
 use Rattle.log_model.proofs.Cut.{on_call, last-call, ended-last}
 use Rattle.log_model.specs.Claim.{Placed}
 use Rattle.log_model.proofs.Kept.{placed-call, place-fits, ending-within, judged-within}
-use Rattle.log.specs.declared.JudgedLog.{JudgedLog}
-use Rattle.log.specs.Shown.{judged_shown, PartJudged}
+use Rattle.log_pieces.specs.declared.JudgedLog.{JudgedLog}
+use Rattle.log_pieces.specs.Shown.{judged_shown, PartJudged}
 use Rattle.stream.specs.declared.Got.{Got}
 use Rattle.stream.specs.Kept.{kept, ReadOn}
 use Rattle.judge_log.specs.declared.input.Progress.{Progress}

@@ -35,16 +35,16 @@ use denote.Triple.Walked.{says, Stays, stay_dropped, gave_ref, walk_of, AllGo, G
 use denote.Exit.{yes}
 use Rattle.tally.specs.declared.Tally.{Tally}
 use Rattle.log_model.specs.Pieces.{Answer, judge_log}
-use Rattle.log.specs.Shown.{answer_shown}
+use Rattle.log_pieces.specs.Shown.{answer_shown}
 use Rattle.walk.proofs.Calls.{Of, Told, agreed, asked, value, Known, calls_told}
 use Rattle.walk.proofs.Locals.{var, made, frees_cell}
 use Rattle.tally.specs.contracts.Tally as T
-use Rattle.log.specs.contracts.LogAnswer as L
-use Rattle.log.proofs.LogAnswer.TheLaws as L'
-use Rattle.log.specs.contracts.judge_log as judge-log
-use Rattle.log.proofs.judge_log.Symbol as judge-log-def
-use Rattle.log.proofs.judge_log.Symbol.{name as #log·judge-log}
-use Rattle.log.proofs.judge_log.Met as judge-log-thm
+use Rattle.log_pieces.specs.contracts.LogAnswer as L
+use Rattle.log_pieces.proofs.LogAnswer.TheLaws as L'
+use Rattle.log_pieces.specs.contracts.judge_log as judge-log
+use Rattle.log_pieces.proofs.judge_log.Symbol as judge-log-def
+use Rattle.log_pieces.proofs.judge_log.Symbol.{name as #log·judge-log}
+use Rattle.log_pieces.proofs.judge_log.Met as judge-log-thm
 use Rattle.litmus.specs.contracts.litmus_log_judge.Key.{name as #litmus·litmus-log-judge}
 use Rattle.litmus.specs.contracts.litmus_log_judge as litmus-log-judge
 use Rattle.litmus.proofs.litmus_log_judge.Statement as stated
