@@ -1,0 +1,28 @@
+-- `rows::after_anywhere` meets its contract. Assumes nothing.
+use Prim.Native.Nat.{◌-◌}
+use borrow.Author.Rules.{rules}
+use native.Mathlib.Omega.{arith}
+use Rattle.rows.specs.Sets.{order_in}
+use Rattle.rows.proofs.Loops.{United, empty, joins, united}
+use Rattle.rows.proofs.SetLaws.{as_set}
+use Rattle.rows.proofs.after_anywhere.Goals as goal
+
+pub loop-p-init : goal.loop-p-init
+loop-p-init c =
+    search empty
+
+pub overflow_step-p : goal.overflow_step-p
+overflow_step-p c =
+    omega arith
+
+pub loop-p-smaller : goal.loop-p-smaller
+loop-p-smaller c =
+    omega arith
+
+pub loop-p-preserved : goal.loop-p-preserved
+loop-p-preserved c =
+    joins c.loop-p.invariant c.loop-p-test.true (as_set c.row-found.ensures)
+
+pub returns : goal.returns
+returns c =
+    united c.loop-p.invariant c.loop-p-test.false

@@ -1,0 +1,34 @@
+-- `rows::by_event` meets its contract. Assumes nothing.
+use Prim.Native.Nat.{◌-◌}
+use borrow.Author.Rules.{rules}
+use native.Mathlib.Omega.{arith}
+use mathlib.Core.Bool.{◌&&◌}
+use lib.ListN.{get_or}
+use Rattle.rows.specs.Sets.{set_in}
+use Rattle.bits.specs.Bit.{bit}
+use Rattle.rows.proofs.Loops.{Filled, unfilled, fills, filled}
+use Rattle.rows.proofs.by_event.Goals as goal
+
+pub loop-e-init : goal.loop-e-init
+loop-e-init c =
+    unfilled (search rules)
+
+pub at_label-requires-clause-e_bound : goal.at_label-requires-clause-e_bound
+at_label-requires-clause-e_bound c =
+    c.requires.by_index c.loop-e.e c.loop-e-test.true
+
+pub overflow_step-e : goal.overflow_step-e
+overflow_step-e c =
+    omega arith
+
+pub loop-e-smaller : goal.loop-e-smaller
+loop-e-smaller c =
+    omega arith
+
+pub loop-e-preserved : goal.loop-e-preserved
+loop-e-preserved c =
+    fills c.loop-e.invariant c.loop-e-test.true c.at_label.ensures
+
+pub returns : goal.returns
+returns c =
+    filled c.loop-e.invariant c.loop-e-test.false

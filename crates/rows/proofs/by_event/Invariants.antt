@@ -1,0 +1,16 @@
+-- `rows::by_event` meets its contract. Assumes nothing.
+use Prim.Native.Nat.{◌-◌}
+use borrow.Author.Rules.{rules}
+use native.Mathlib.Omega.{arith}
+use mathlib.Core.Bool.{◌&&◌}
+use lib.ListN.{get_or}
+use Rattle.rows.specs.Sets.{set_in}
+use Rattle.bits.specs.Bit.{bit}
+use Rattle.rows.proofs.Loops.{Filled, unfilled, fills, filled}
+use Rattle.rows.proofs.by_event.Given as goal
+
+abbrev pub invariant-loop-e : goal.invariant-loop-e
+invariant-loop-e l = Filled l.k (λ e i. bit l.set e && set_in l.sets (get_or l.bytes e 0) i) l.e l.out
+
+abbrev pub decreases-loop-e : goal.decreases-loop-e
+decreases-loop-e l = l.k - l.e

@@ -1,0 +1,17 @@
+-- `rows::dependents` meets its contract. Assumes nothing.
+use Prim.Native.Nat.{◌-◌, ◌<◌}
+use borrow.Author.Rules.{rules}
+use native.Mathlib.Omega.{arith}
+use mathlib.Core.Path.{refl}
+use lib.ListN.{get_or}
+use Rattle.model.specs.Limits.{most_events}
+use Rattle.rows.proofs.Loops.{Linked, unlinked, links, linked}
+use Rattle.rows.proofs.dependents.Given as goal
+
+abbrev pub invariant-loop-i : goal.invariant-loop-i
+invariant-loop-i l = Linked l.froms l.tos l.count l.i l.out
+
+abbrev pub decreases-loop-i : goal.decreases-loop-i
+decreases-loop-i l = l.count - l.i
+
+-- the events of the dependency at hand

@@ -1,0 +1,16 @@
+-- `rows::labelled` meets its contract. Assumes nothing.
+use Prim.Native.Nat.{◌-◌}
+use borrow.Author.Rules.{rules}
+use native.Mathlib.Omega.{arith}
+use mathlib.Core.Bool.{◌&&◌}
+use lib.Dec.{eqb}
+use lib.ListN.{get_or}
+use Rattle.rows.proofs.Loops.{United, empty, joins, united}
+use Rattle.rows.proofs.SetLaws.{set_same, some_only}
+use Rattle.rows.proofs.labelled.Given as goal
+
+abbrev pub invariant-loop-e : goal.invariant-loop-e
+invariant-loop-e l = United l.k (λ e i. eqb (get_or l.bytes e 0) l.x && eqb i e) l.e l.found
+
+abbrev pub decreases-loop-e : goal.decreases-loop-e
+decreases-loop-e l = l.k - l.e

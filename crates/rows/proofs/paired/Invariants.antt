@@ -1,0 +1,19 @@
+-- `rows::paired` meets its contract. Assumes nothing.
+use Prim.Native.Nat.{ℕ, ◌-◌}
+use borrow.Author.Rules.{rules}
+use native.Mathlib.Omega.{arith}
+use mathlib.Core.Path.{subst}
+use mathlib.Core.Bool.{◌&&◌, ◌||◌}
+use lib.Dec.{eqb, ltb}
+use Rattle.finite.specs.Tests.{some}
+use Rattle.rows.specs.Sets.{Set, order_in}
+use Rattle.bits.specs.Bit.{bit}
+use Rattle.rows.proofs.Loops.{United, empty, joins, united}
+use Rattle.rows.proofs.SetLaws.{paired-set}
+use Rattle.rows.proofs.paired.Given as goal
+
+abbrev pub invariant-loop-a : goal.invariant-loop-a
+invariant-loop-a l = United l.k (λ a e. ltb e l.k && (order_in l.rows l.p a e || (eqb e a && some l.k (order_in l.rows l.p a)))) l.a l.found
+
+abbrev pub decreases-loop-a : goal.decreases-loop-a
+decreases-loop-a l = l.k - l.a
