@@ -19,7 +19,7 @@ use Rattle.model.specs.Written.{record_of}
 use Rattle.model.specs.Renumber.{relabel, renumber}
 use Rattle.model.specs.Answers.{Answer, judge, judge_case}
 use Rattle.model.specs.Fits.{Fits}
-use Rattle.model.specs.Calls.{Call, judging, renumbering, judging_case, renumbering_case, record_after, Composed, start, composed_after, moved_answer, ruled}
+use Rattle.model.specs.Calls.{entered, Call, judging, renumbering, judging_case, renumbering_case, record_after, Composed, start, composed_after, moved_answer, ruled}
 use Rattle.model.proofs.Faultless.{handed_on}
 use Rattle.laws.proofs.ReadBack.{read_back}
 use Rattle.laws.proofs.ExactCase.{Readable, readable}
@@ -241,7 +241,7 @@ after-fits c F b [] fit = fit
 after-fits c F b (judging model behind ∷ xs) fit = after-fits c F b xs fit
 after-fits c F b (judging_case model ∷ xs) fit = after-fits c F b xs fit
 after-fits c F b (renumbering_case q r ∷ xs) fit = after-fits c F b xs fit
-after-fits c F b (renumbering q r behind buffer at ∷ xs) fit = after-fits c F _ xs (entered-fits c F b fit q r behind buffer at)
+after-fits c F b (renumbering q r behind buffer at ∷ xs) fit = after-fits c F (entered c.n c.m (length (record_of c)) b (renumbering q r behind buffer at)) xs (entered-fits c F b fit q r behind buffer at)
 
 -- After every list of judging and renumbering calls, the condition with its addresses moved by A, as A is then, gets the answer that the starting record gets for
 -- the condition, with the finals moved
