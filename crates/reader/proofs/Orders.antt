@@ -18,7 +18,7 @@ use Rattle.number.specs.declared.NumberRead.TheVariants.{Number, Refused}
 use Rattle.number.proofs.Laws.{read_within}
 use Rattle.number.proofs.Turns.{turns-none, turns-stop, turns_next}
 use Rattle.model.specs.Limits.{most_events}
-use Rattle.model.specs.Record.{Pair, Rows, pair, rising_pair, next_pair, order}
+use Rattle.model.specs.Record.{Rows, pair, rising_pair, next_pair, order}
 use Rattle.case.specs.Held.{pad}
 use Rattle.case.proofs.Pad.{pad_get, pad-put, pad-zeros}
 use Rattle.reader.specs.Answers.{Stores, Padded, pairs, Ran, in_row, pair_out}

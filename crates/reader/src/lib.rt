@@ -1,4 +1,6 @@
 // The reading of a record into a case. A record lies in a slice of bytes from a place on; what lies behind it is not read.
+#![tactic(auto)]
+
 ghost use Rattle.std.specs.Prelude.{◌≡◌, [], ◌-◌, ◌*◌, ◌≤◌, ◌<◌, ◌&&◌, eqb, leb, length, get_or, replicate};
 ghost use Rattle.number.specs.Reader.{times, turns, up_to, number_out, stop, next};
 ghost use Rattle.bits.specs.Bit.{bit};
