@@ -1,4 +1,6 @@
 // A condition in text, read and evaluated in one pass.
+#![tactic(auto)]
+
 ghost use Rattle.std.specs.Prelude.{◌≡◌, ◌&&◌, ◌||◌, not, ◌+◌, ◌*◌, ◌-◌, ◌≤◌, ◌<◌, eqb, length, drop};
 ghost use Rattle.number.specs.Reader.{number_out};
 ghost use Rattle.model.specs.Limits.{most_value};
