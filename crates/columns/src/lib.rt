@@ -1,4 +1,6 @@
 // The columns of orders that are held as rows: column b of thread p holds the events that come before b in p's order.
+#![tactic(auto)]
+
 ghost use Rattle.std.specs.Prelude.{◌≡◌, false, ◌+◌, ◌-◌, ◌*◌, ◌/◌, ◌^◌, ◌<◌, ◌≤◌, length};
 ghost use Rattle.model.specs.Limits.{most_threads, most_events};
 ghost use Rattle.columns.specs.Columns.{Columns};

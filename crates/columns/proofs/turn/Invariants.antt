@@ -1,0 +1,11 @@
+-- `columns::turn` meets its contract. Assumes nothing.
+use Prim.Native.Nat.{◌-◌}
+use Rattle.columns.specs.Swaps.{digits}
+use Rattle.columns.proofs.Turns.{Turning}
+use Rattle.columns.proofs.turn.Given as goal
+
+abbrev pub invariant-loop-s : goal.invariant-loop-s
+invariant-loop-s l = Turning l.count l.s l.initial.part l.part
+
+abbrev pub decreases-loop-s : goal.decreases-loop-s
+decreases-loop-s l = digits - l.s
