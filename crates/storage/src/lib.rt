@@ -1,4 +1,6 @@
 // A state of the storage subsystem by value: what a trace's steps have made of it so far.
+#![tactic(auto)]
+
 ghost use Rattle.std.specs.Prelude.{◌≡◌};
 ghost use Rattle.storage.specs.Held.{empty_storage};
 

@@ -1,4 +1,6 @@
 // A case to its record, in a lent buffer.
+#![tactic(auto)]
+
 ghost use Rattle.std.specs.Prelude.{◌≡◌, [], ◌∷◌, ◌++◌, ◌+◌, ◌*◌, ◌≤◌, ◌<◌, length, get_or};
 ghost use Rattle.number.specs.Number.{encode};
 ghost use Rattle.model.specs.Limits.{most_threads, most_addresses, most_events, most_dependencies, most_name};
