@@ -1,5 +1,7 @@
 // Rules 11 to 14: what each thread's order and the write orders have to be. `known` holds what a rule presupposes, `asked`
 // what it asks for.
+#![tactic(auto)]
+
 ghost use Rattle.std.specs.Prelude.{◌≡◌, true, ◌&&◌, ◌||◌, ℕ, ◌+◌, ◌*◌, ◌<◌, ◌≤◌, get_or};
 ghost use Rattle.finite.specs.Tests.{all, count, ◌⇒◌};
 ghost use Rattle.bits.specs.Bit.{bit};

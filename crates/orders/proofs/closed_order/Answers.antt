@@ -1,0 +1,28 @@
+-- `orders::closed_order` meets its contract. Assumes nothing.
+use native.Mathlib.Omega.{arith}
+use Rattle.finite.proofs.Loops.{begun, fails, passes, ends}
+use Rattle.orders.proofs.closed_order.Goals as goal
+
+pub loop-a-init : goal.loop-a-init
+loop-a-init c =
+    begun
+
+pub returns-then-not-closed_row : goal.returns-then-not-closed_row
+returns-then-not-closed_row c =
+    search fails
+
+pub overflow_step-a : goal.overflow_step-a
+overflow_step-a c =
+    omega arith
+
+pub loop-a-smaller : goal.loop-a-smaller
+loop-a-smaller c =
+    omega arith
+
+pub loop-a-preserved : goal.loop-a-preserved
+loop-a-preserved c =
+    search passes
+
+pub returns : goal.returns
+returns c =
+    search ends

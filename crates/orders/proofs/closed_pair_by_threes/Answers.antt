@@ -1,0 +1,28 @@
+-- `orders::closed_pair_by_threes` meets its contract. Assumes nothing.
+use native.Mathlib.Omega.{arith}
+use Rattle.finite.proofs.Loops.{begun, fails, passes, ends}
+use Rattle.orders.proofs.closed_pair_by_threes.Goals as goal
+
+pub loop-d-init : goal.loop-d-init
+loop-d-init c =
+    begun
+
+pub returns-then-not-three : goal.returns-then-not-three
+returns-then-not-three c =
+    search fails
+
+pub overflow_step-d : goal.overflow_step-d
+overflow_step-d c =
+    omega arith
+
+pub loop-d-smaller : goal.loop-d-smaller
+loop-d-smaller c =
+    omega arith
+
+pub loop-d-preserved : goal.loop-d-preserved
+loop-d-preserved c =
+    search passes
+
+pub returns : goal.returns
+returns c =
+    search ends

@@ -1,0 +1,35 @@
+-- `orders::rule11_by_threes` meets its contract. Assumes nothing.
+use native.Mathlib.Omega.{arith}
+use Rattle.finite.proofs.Loops.{begun, fails, passes, ends}
+use Rattle.rows.specs.May.{may11}
+use Rattle.orders.proofs.rule11_by_threes.Goals as goal
+
+pub loop-p-init : goal.loop-p-init
+unfolding may11
+loop-p-init c =
+    begun
+
+pub returns-then-not-closed_order_by_threes : goal.returns-then-not-closed_order_by_threes
+unfolding may11
+returns-then-not-closed_order_by_threes c =
+    search fails
+
+pub overflow_step-p : goal.overflow_step-p
+unfolding may11
+overflow_step-p c =
+    omega arith
+
+pub loop-p-smaller : goal.loop-p-smaller
+unfolding may11
+loop-p-smaller c =
+    omega arith
+
+pub loop-p-preserved : goal.loop-p-preserved
+unfolding may11
+loop-p-preserved c =
+    search passes
+
+pub returns : goal.returns
+unfolding may11
+returns c =
+    search ends
