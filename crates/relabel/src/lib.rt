@@ -1,4 +1,6 @@
 // A case under a threads' and an addresses' permutation.
+#![tactic(auto)]
+
 ghost use Rattle.std.specs.Prelude.{◌≡◌, true, cond, ◌++◌, ◌+◌, ◌*◌, ◌%◌, ◌^◌, ◌≤◌, length, get_or, drop};
 ghost use Rattle.finite.specs.Lists.{table};
 ghost use Rattle.permutation.specs.Permutation.{image as image_of, inverse as inverse_of};
