@@ -1,5 +1,7 @@
 // Rules 15 to 18: the values that loads hold, and what barriers carry. `known` holds what a rule presupposes, `asked` what
 // it asks for.
+#![tactic(auto)]
+
 ghost use Rattle.std.specs.Prelude.{◌≡◌, true, ◌&&◌, ℕ, ◌*◌, ◌<◌, ◌≤◌, eqb, ltb, get_or};
 ghost use Rattle.finite.specs.Tests.{all, some, ◌⇒◌};
 ghost use Rattle.bits.specs.Bit.{bit};

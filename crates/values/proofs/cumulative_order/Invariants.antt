@@ -1,0 +1,12 @@
+-- `values::cumulative_order` meets its contract. Assumes nothing.
+use Rattle.rows.specs.Sets.{order_in, applicable_in}
+use Rattle.bits.specs.Bit.{bit}
+use Rattle.values.specs.Parts.{cumulative}
+use Rattle.rows.proofs.Visits.{Visited}
+use Rattle.values.proofs.cumulative_order.Given as goal
+
+abbrev pub invariant-loop-rest : goal.invariant-loop-rest
+invariant-loop-rest l = Visited l.k l.fences (cumulative l.k l.n (bit l.own) (bit l.barriers) (applicable_in l.syncs l.light) (order_in l.known l.p) (order_in l.asked)) l.rest
+
+abbrev pub decreases-loop-rest : goal.decreases-loop-rest
+decreases-loop-rest l = l.rest
