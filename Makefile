@@ -11,17 +11,19 @@ demo: judge
 
 # the program target/bin/judge
 judge:
-	rt check judge
+	cd crates/judge && rt run -- --help > /dev/null
+	install -D crates/judge/out/judge target/bin/judge
 
 # the program target/bin/judge_log
 judge_log:
-	rt check judge_log
+	cd crates/judge_log && rt run -- --help > /dev/null
+	install -D crates/judge_log/out/judge_log target/bin/judge_log
 
 # times beside an ordinary Rust implementation; with BEFORE=ARCHIVE judging also beside another version's liblitmus.a,
 # and with PART=judging or PART=traces nothing else
 bench: archive judge_log
 	cd rust && BEFORE=$(abspath $(BEFORE)) cargo run --release --offline --bin bench $(PART)
 
-# the static library that C and Rust link
+# the static library that C and Rust link, target/staticlib/liblitmus.a
 archive:
-	rt staticlib litmus
+	tools/archive.sh

@@ -1,4 +1,4 @@
-//! Tells the linker where `rt staticlib litmus`, run at the repository's root, puts the archive, and
+//! Tells the linker where `make archive`, run at the repository's root, puts the archive, and
 //! prepares the archive of another version for the benchmark, if the variable `BEFORE` names one.
 
 use std::env;
@@ -14,7 +14,7 @@ fn main() {
     let archive = folder.join("liblitmus.a");
     if !archive.exists() {
         println!(
-            "cargo:warning=no {}: run `rt staticlib litmus` first",
+            "cargo:warning=no {}: run `make archive` first",
             archive.display()
         );
     }

@@ -406,32 +406,28 @@ pub fn fits(q: u64, n: usize) -> bool
     permutation::fits(q as usize, n)
 }
 
-// The functions for C, as include/litmus.h declares them.
+// The functions that litmus_c exports to C, as include/litmus.h declares them.
 
-#[unsafe(no_mangle)]
-pub extern "C" fn litmus_read(bytes: &[u8]) -> Answer
+pub fn litmus_read(bytes: &[u8]) -> Answer
     ensures { result ≡ shown (answer_of (read_record bytes.now)) }
 {
     let reading = read(bytes);
     reading.answer
 }
 
-#[unsafe(no_mangle)]
-pub extern "C" fn litmus_judge(bytes: &[u8], model: u64) -> Answer
+pub fn litmus_judge(bytes: &[u8], model: u64) -> Answer
     ensures { result ≡ shown (judge_record model bytes.now) }
 {
     judge(bytes, model)
 }
 
-#[unsafe(no_mangle)]
-pub extern "C" fn litmus_condition(bytes: &[u8], model: u64, text: &[u8]) -> ConditionAnswer
+pub fn litmus_condition(bytes: &[u8], model: u64, text: &[u8]) -> ConditionAnswer
     ensures { result ≡ condition_shown (condition_of model bytes.now text.now) }
 {
     condition(bytes, model, text)
 }
 
-#[unsafe(no_mangle)]
-pub extern "C" fn litmus_renumber(
+pub fn litmus_renumber(
     bytes: &[u8],
     threads: u64,
     addresses: u64,
@@ -444,23 +440,20 @@ pub extern "C" fn litmus_renumber(
     renumber(bytes, threads, addresses, out, at as usize)
 }
 
-#[unsafe(no_mangle)]
-pub extern "C" fn litmus_representative(bytes: &[u8], out: &mut [u8], at: u64) -> Answer
+pub fn litmus_representative(bytes: &[u8], out: &mut [u8], at: u64) -> Answer
     ensures value { result ≡ shown (representative_record bytes.now out.old at).answer }
     ensures out_after { out.new ≡ (representative_record bytes.now out.old at).buffer }
 {
     representative(bytes, out, at as usize)
 }
 
-#[unsafe(no_mangle)]
-pub extern "C" fn litmus_lesser(first: &[u8], second: &[u8]) -> Choice
+pub fn litmus_lesser(first: &[u8], second: &[u8]) -> Choice
     ensures { result ≡ choice_shown (choice_of first.now second.now) }
 {
     compared(first, second)
 }
 
-#[unsafe(no_mangle)]
-pub extern "C" fn litmus_name(bytes: &[u8]) -> Part
+pub fn litmus_name(bytes: &[u8]) -> Part
     ensures { result ≡ part_shown (read_record bytes.now) }
 {
     let part = reader::name_part(bytes);
@@ -478,8 +471,7 @@ fn no_part() -> Part
 }
 
 // Where the name beside `litmus_judge` lies.
-#[unsafe(no_mangle)]
-pub extern "C" fn litmus_judged_name(bytes: &[u8], model: u64) -> Part
+pub fn litmus_judged_name(bytes: &[u8], model: u64) -> Part
     ensures value { result ≡ judged_part model bytes.now }
     ensures result_value { bytes_of bytes.now result ≡ judged_name model bytes.now }
 {
@@ -490,8 +482,7 @@ pub extern "C" fn litmus_judged_name(bytes: &[u8], model: u64) -> Part
 }
 
 // Where the name beside `litmus_renumber` into a buffer of so many bytes lies.
-#[unsafe(no_mangle)]
-pub extern "C" fn litmus_renumbered_name(
+pub fn litmus_renumbered_name(
     bytes: &[u8],
     threads: u64,
     addresses: u64,
@@ -509,122 +500,101 @@ pub extern "C" fn litmus_renumbered_name(
 
 // The same calls on a case, which C hands over and gets by value.
 
-#[unsafe(no_mangle)]
-pub extern "C" fn litmus_case_read(bytes: &[u8]) -> CaseAnswer
+pub fn litmus_case_read(bytes: &[u8]) -> CaseAnswer
     ensures { result ≡ case_shown (read_record bytes.now) }
 {
     read(bytes)
 }
 
-#[unsafe(no_mangle)]
-pub extern "C" fn litmus_case_write(c: Case, out: &mut [u8], at: u64) -> Answer
+pub fn litmus_case_write(c: Case, out: &mut [u8], at: u64) -> Answer
     ensures value { result ≡ shown (write_case (case_of c) out.old at).answer }
     ensures out_after { out.new ≡ (write_case (case_of c) out.old at).buffer }
 {
     write(c, out, at as usize)
 }
 
-#[unsafe(no_mangle)]
-pub extern "C" fn litmus_case_judge(c: Case, model: u64) -> Answer
+pub fn litmus_case_judge(c: Case, model: u64) -> Answer
     ensures { result ≡ shown (judge_case model (case_of c)) }
 {
     judge_case(c, model)
 }
 
-#[unsafe(no_mangle)]
-pub extern "C" fn litmus_case_condition(c: Case, model: u64, text: &[u8]) -> ConditionAnswer
+pub fn litmus_case_condition(c: Case, model: u64, text: &[u8]) -> ConditionAnswer
     ensures { result ≡ condition_shown (condition_case model (case_of c) text.now) }
 {
     condition_case(c, model, text)
 }
 
-#[unsafe(no_mangle)]
-pub extern "C" fn litmus_case_renumber(c: Case, threads: u64, addresses: u64) -> CaseAnswer
+pub fn litmus_case_renumber(c: Case, threads: u64, addresses: u64) -> CaseAnswer
     ensures { result ≡ case_shown (renumber_case threads addresses (case_of c)) }
 {
     renumber_case(c, threads, addresses)
 }
 
-#[unsafe(no_mangle)]
-pub extern "C" fn litmus_case_representative(c: Case) -> CaseAnswer
+pub fn litmus_case_representative(c: Case) -> CaseAnswer
     ensures { result ≡ case_shown (representative_case (case_of c)) }
 {
     representative_case(c)
 }
 
 // Judges the records of bytes that begin at the place from of a log, the last of the log or not, and adds each to the tally of the caller.
-#[unsafe(no_mangle)]
-pub extern "C" fn litmus_log_judge(
-    bytes: &[u8],
-    from: u64,
-    last: bool,
-    tally: &mut Tally,
-) -> LogAnswer
+pub fn litmus_log_judge(bytes: &[u8], from: u64, last: bool, tally: &mut Tally) -> LogAnswer
     ensures { (result ≡ answer_shown (judge_log from last bytes.now tally.old)) × (tally.new ≡ (judge_log from last bytes.now tally.old).tally) }
 {
     judge_log(bytes, from, last, tally)
 }
 
-#[unsafe(no_mangle)]
-pub extern "C" fn litmus_area_append(area: &mut [u8], bytes: &[u8], allowed: u64) -> Answer
+pub fn litmus_area_append(area: &mut [u8], bytes: &[u8], allowed: u64) -> Answer
     ensures value { result ≡ shown (append_area area.old bytes.now allowed).answer }
     ensures area_after { area.new ≡ (append_area area.old bytes.now allowed).buffer }
 {
     area_append(area, bytes, allowed as usize)
 }
 
-#[unsafe(no_mangle)]
-pub extern "C" fn litmus_area_repair(area: &mut [u8], allowed: u64) -> Answer
+pub fn litmus_area_repair(area: &mut [u8], allowed: u64) -> Answer
     ensures value { result ≡ shown (repair_area area.old allowed).answer }
     ensures area_after { area.new ≡ (repair_area area.old allowed).buffer }
 {
     area_repair(area, allowed as usize)
 }
 
-#[unsafe(no_mangle)]
-pub extern "C" fn litmus_area_next(area: &[u8], at: u64) -> Frame
+pub fn litmus_area_next(area: &[u8], at: u64) -> Frame
     ensures { result ≡ frame_shown at (frame_at area.now at) }
 {
     area_next(area, at as usize)
 }
 
-#[unsafe(no_mangle)]
-pub extern "C" fn litmus_trace(bytes: &[u8]) -> TraceAnswer
+pub fn litmus_trace(bytes: &[u8]) -> TraceAnswer
     ensures { result ≡ trace_shown (judge_trace bytes.now) }
 {
     judge_trace(bytes)
 }
 
-#[unsafe(no_mangle)]
-pub extern "C" fn litmus_trace_read(bytes: &[u8]) -> TraceReading
+pub fn litmus_trace_read(bytes: &[u8]) -> TraceReading
     ensures { result ≡ reading_shown (read_trace bytes.now) }
 {
     read_trace(bytes)
 }
 
-#[unsafe(no_mangle)]
-pub extern "C" fn litmus_composite(first: u64, then: u64) -> u64
+pub fn litmus_composite(first: u64, then: u64) -> u64
     ensures { result ≡ composite_of first then }
 {
     composite(first, then)
 }
 
-#[unsafe(no_mangle)]
-pub extern "C" fn litmus_inverse(q: u64) -> u64
+pub fn litmus_inverse(q: u64) -> u64
     ensures { result ≡ inverse_of q }
 {
     inverse(q)
 }
 
-#[unsafe(no_mangle)]
-pub extern "C" fn litmus_fits(q: u64, labels: usize) -> bool
+pub fn litmus_fits(q: u64, labels: usize) -> bool
     ensures { result ≡ fits_of q labels }
 {
     fits(q, labels)
 }
 
-#[unsafe(no_mangle)]
-pub extern "C" fn litmus_rule11(
+pub fn litmus_rule11(
     rows: &[u64; Case::MOST_THREADS * Case::MOST_EVENTS],
     threads: usize,
     events: usize,
@@ -634,8 +604,7 @@ pub extern "C" fn litmus_rule11(
     rule11(rows, threads, events)
 }
 
-#[unsafe(no_mangle)]
-pub extern "C" fn litmus_rule11_by_threes(
+pub fn litmus_rule11_by_threes(
     rows: &[u64; Case::MOST_THREADS * Case::MOST_EVENTS],
     threads: usize,
     events: usize,
@@ -645,8 +614,7 @@ pub extern "C" fn litmus_rule11_by_threes(
     rule11_by_threes(rows, threads, events)
 }
 
-#[unsafe(no_mangle)]
-pub extern "C" fn litmus_rule11_tests_agree(
+pub fn litmus_rule11_tests_agree(
     rows: &[u64; Case::MOST_THREADS * Case::MOST_EVENTS],
     threads: usize,
     events: usize,

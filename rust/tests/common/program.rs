@@ -25,7 +25,9 @@ pub fn start(name: &str, words: &[&OsStr], input: impl Into<Stdio>) -> Child {
     let mut command = Command::new(path(name));
     command.args(words).stdin(input);
     command.stdout(Stdio::piped()).stderr(Stdio::piped());
-    command.spawn().expect("'rt check' builds the program")
+    command
+        .spawn()
+        .expect("'make judge judge_log' builds the program")
 }
 
 /// Its standard input is a pipe with the pieces. Calls `before` with the process's id before each.

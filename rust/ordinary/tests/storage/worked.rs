@@ -76,20 +76,20 @@ fn step(text: &str) -> Option<Step> {
     let fields = numbers(text);
     let at = |i: usize| fields[i] as usize;
     Some(match kind {
-        "acceptWrite" => Step::AcceptWrite {
+        "accept_write" => Step::AcceptWrite {
             thread: at(0),
             address: at(1),
             value: fields[2],
         },
-        "acceptBarrier" => Step::AcceptBarrier {
+        "accept_barrier" => Step::AcceptBarrier {
             thread: at(0),
             class: at(1),
         },
-        "propagateWrite" => Step::PropagateWrite {
+        "propagate_write" => Step::PropagateWrite {
             write: at(0),
             thread: at(1),
         },
-        "propagateBarrier" => Step::PropagateBarrier {
+        "propagate_barrier" => Step::PropagateBarrier {
             barrier: at(0),
             thread: at(1),
         },
