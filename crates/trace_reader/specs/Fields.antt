@@ -1,11 +1,10 @@
 -- A step's fields read alike for every kind, and what the code's answers say.
 -- Assumes nothing.
-use Rattle.std.specs.Prelude.{ℕ, suc, ◌≡◌, Bool, cond, ◌||◌, List, [], map, eqb}
-use Rattle.number.specs.Reader.{Out, stop, next, Reader, give, ◌>>=◌, turns, times, up_to, under}
+use Rattle.std.specs.Prelude.{ℕ, suc, ◌≡◌, Bool, cond, ◌||◌, List, map, eqb}
+use Rattle.number.specs.Reader.{Out, stop, next, Reader, give, ◌>>=◌, up_to, under}
 use Rattle.model.specs.Limits.{most_addresses, most_value}
 use Rattle.storage_model.specs.Limits.{most_steps}
 use Rattle.storage_model.specs.Trace.{Trace, Step, lwsync}
-use Rattle.storage_model.specs.Layout.{next_step}
 use Rattle.case.specs.Held.{pad}
 use Rattle.reader.specs.Answers.{Padded}
 use Rattle.trace_reader.specs.Held.{kind_of, first_of, second_of, value_of, step_of}

@@ -1,4 +1,6 @@
 // The reading of a trace of the storage subsystem from its bytes.
+#![tactic(auto)]
+
 ghost use Rattle.std.specs.Prelude.{◌≡◌, [], ◌≤◌, ◌<◌, eqb, length, replicate};
 ghost use Rattle.finite.specs.Tests.{tick};
 ghost use Rattle.number.specs.Reader.{turns, stop};
