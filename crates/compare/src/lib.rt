@@ -1,4 +1,6 @@
 // Bytes, and the fields of two records, compared byte by byte.
+#![tactic(auto)]
+
 ghost use Rattle.std.specs.Prelude.{◌≡◌, not, ◌&&◌, ◌+◌, ◌*◌, ◌%◌, ◌^◌, ◌≤◌, ◌<◌, get_or};
 ghost use Rattle.finite.specs.Lists.{each};
 ghost use Rattle.number.specs.Number.{encode};

@@ -1,4 +1,6 @@
 // A case's representative: the renumbering with the least record, found by comparing fields.
+#![tactic(auto)]
+
 ghost use Rattle.std.specs.Prelude.{◌≡◌, cond, [], ◌≤◌, ◌<◌};
 ghost use Rattle.number.specs.Number.{encode};
 ghost use Rattle.permutation.specs.Permutation.{labels, image as image_of, inverse as inverse_of};

@@ -1,0 +1,11 @@
+-- `compare::first` meets its contract. Assumes nothing.
+use Rattle.compare.proofs.Groups.{first_low, first_high}
+use Rattle.compare.proofs.first.Goals as goal
+
+pub returns-then-v-lt128 : goal.returns-then-v-lt128
+returns-then-v-lt128 c =
+    search first_low
+
+pub returns : goal.returns
+returns c =
+    search first_high

@@ -1,0 +1,7 @@
+-- `least::label` meets its contract. Assumes nothing.
+use Rattle.least.proofs.Fields.{of_numbers}
+use Rattle.least.proofs.label.Goals as goal
+
+pub returns : goal.returns
+returns c =
+    search of_numbers
