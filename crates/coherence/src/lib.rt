@@ -1,4 +1,6 @@
 // The coherence order of writes, held as the set of the writes before each.
+#![tactic(auto)]
+
 ghost use Rattle.std.specs.Prelude.{◌≡◌, not, ◌&&◌, ◌||◌, ◌<◌, ◌≤◌, eqb, ltb, get_or, length};
 ghost use Rattle.finite.specs.Tests.{all, some};
 ghost use Rattle.bits.specs.Bit.{bit};

@@ -1,4 +1,6 @@
 // The events that have been propagated to threads: sets of them out of the threads' lists. An event is named by its entry in a list.
+#![tactic(auto)]
+
 ghost use Rattle.std.specs.Prelude.{◌≡◌, ◌+◌, ◌*◌, ◌<◌, ◌≤◌, get_or};
 ghost use Rattle.finite.specs.Tests.{all};
 ghost use Rattle.model.specs.Limits.{most_threads};

@@ -16,7 +16,7 @@ use Rattle.bits.specs.Bit.{bit, width}
 use Rattle.bits.proofs.Bits.{bit-and, bit_ones}
 use Rattle.storage_model.specs.Limits.{most_writes}
 use Rattle.storage_model.specs.Trace.{propagate_write, propagate_barrier, respond}
-use Rattle.storage_model.specs.Subsystem.{State, Event, write, barrier, same, member, precedes, writer, address, value, owner, events, arrived, coherent, group_a, latest, barriers_seen, write_is_new, write_is_after, barriers_went_before, barrier_is_new, group_a_went_before, responds_latest, failing, effect}
+use Rattle.storage_model.specs.Subsystem.{State, Event, write, barrier, same, member, precedes, writer, address, owner, events, arrived, coherent, group_a, latest, barriers_seen, write_is_new, write_is_after, barriers_went_before, barrier_is_new, group_a_went_before, responds_latest, failing, effect}
 use Rattle.storage_laws.proofs.Listed.{precedes_members}
 use Rattle.rows.specs.Sets.{Set}
 use Rattle.storage.specs.Held.{event_of, list_at, edge_in, state_of, Good}

@@ -1,4 +1,6 @@
 // The transitions of the storage subsystem: for each kind of step, which of its conditions fails, and the state behind it.
+#![tactic(auto)]
+
 ghost use Rattle.std.specs.Prelude.{◌≡◌, Bool, true, false, not, ◌&&◌, ◌||◌, ℕ, ◌+◌, ◌<◌, ◌≤◌, eqb, get_or, length};
 ghost use Rattle.finite.specs.Tests.{tick};
 ghost use Rattle.model.specs.Limits.{most_threads};
