@@ -1,5 +1,7 @@
 // Rules 12 and 15 to 18 of a case's own orders, by their rows and columns: the tests that judging uses. `rows` holds, by thread and event, what comes after the
 // event in the thread's order, `columns` what comes before it.
+#![tactic(auto)]
+
 ghost use Rattle.std.specs.Prelude.{◌≡◌, true, not, ◌&&◌, ◌||◌, ℕ, ◌*◌, ◌<◌, ◌≤◌, eqb, ltb, get_or};
 ghost use Rattle.finite.specs.Tests.{all, some, ◌⇒◌};
 ghost use Rattle.bits.specs.Bit.{bit};

@@ -1,4 +1,6 @@
 // A case's own orders: rule 11 of them, and what joins the orders of its threads.
+#![tactic(auto)]
+
 ghost use Rattle.std.specs.Prelude.{◌≡◌, true, not, ◌&&◌, eqb, ◌-◌, ◌<◌, ◌≤◌, min};
 ghost use Rattle.finite.specs.Tests.{all, ◌⇒◌};
 ghost use Rattle.bits.specs.Bit.{bit, width};

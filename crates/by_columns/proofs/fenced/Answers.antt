@@ -1,0 +1,24 @@
+-- `by_columns::fenced` meets its contract. Assumes nothing.
+use native.Mathlib.Omega.{arith}
+use Rattle.rows.proofs.Loops.{empty, joins, united}
+use Rattle.by_columns.proofs.fenced.Goals as goal
+
+pub loop-p-init : goal.loop-p-init
+loop-p-init c =
+    search empty
+
+pub overflow_step-p : goal.overflow_step-p
+overflow_step-p c =
+    omega arith
+
+pub loop-p-smaller : goal.loop-p-smaller
+loop-p-smaller c =
+    omega arith
+
+pub loop-p-preserved : goal.loop-p-preserved
+loop-p-preserved c =
+    joins c.loop-p.invariant c.loop-p-test.true c.fenced_order-found.ensures
+
+pub returns : goal.returns
+returns c =
+    united c.loop-p.invariant c.loop-p-test.false

@@ -1,0 +1,14 @@
+-- `by_columns::fenced` meets its contract. Assumes nothing.
+use Prim.Native.Nat.{◌-◌}
+use mathlib.Core.Bool.{◌&&◌}
+use Rattle.bits.specs.Bit.{bit}
+use Rattle.finite.specs.Tests.{some}
+use Rattle.rows.specs.Sets.{order_in, set_in}
+use Rattle.rows.proofs.Loops.{United}
+use Rattle.by_columns.proofs.fenced.Given as goal
+
+abbrev pub invariant-loop-p : goal.invariant-loop-p
+invariant-loop-p l = United l.n (λ p s. set_in l.own p s && some l.k (λ f. bit l.barriers f && set_in l.own p f && order_in l.rows p f s)) l.p l.found
+
+abbrev pub decreases-loop-p : goal.decreases-loop-p
+decreases-loop-p l = l.n - l.p

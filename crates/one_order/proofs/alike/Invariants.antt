@@ -1,0 +1,13 @@
+-- `one_order::alike` meets its contract. Assumes nothing.
+use Prim.Native.Nat.{◌-◌}
+use mathlib.Core.Path.{◌≡◌}
+use mathlib.Core.Bool.{true}
+use Rattle.finite.specs.Tests.{all}
+use Rattle.one_order.specs.Alike.{as_first}
+use Rattle.one_order.proofs.alike.Given as goal
+
+abbrev pub invariant-loop-p : goal.invariant-loop-p
+invariant-loop-p l = all l.p (as_first l.k l.rows) ≡ true
+
+abbrev pub decreases-loop-p : goal.decreases-loop-p
+decreases-loop-p l = l.n - l.p

@@ -1,0 +1,24 @@
+-- `one_order::as_first` meets its contract. Assumes nothing.
+use native.Mathlib.Omega.{arith}
+use Rattle.one_order.proofs.AlikeOrders.{compare_none, compare_next, compare_all}
+use Rattle.one_order.proofs.as_first.Goals as goal
+
+pub loop-a-init : goal.loop-a-init
+loop-a-init c =
+    compare_none c.args.k c.args.rows.now c.args.p
+
+pub overflow_step-a : goal.overflow_step-a
+overflow_step-a c =
+    omega arith
+
+pub loop-a-smaller : goal.loop-a-smaller
+loop-a-smaller c =
+    omega arith
+
+pub loop-a-preserved : goal.loop-a-preserved
+loop-a-preserved c =
+    compare_next c.loop-a.invariant c.loop-a-test.true c.row.ensures c.row-in-loop-a.ensures c.differing-found.ensures
+
+pub returns : goal.returns
+returns c =
+    compare_all c.loop-a.invariant c.loop-a-test.false

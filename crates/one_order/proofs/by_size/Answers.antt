@@ -1,0 +1,29 @@
+-- `one_order::by_size` meets its contract. Assumes nothing.
+use borrow.Author.Rules.{rules}
+use native.Mathlib.Omega.{arith}
+use Rattle.one_order.proofs.FinalParts.{unnamed, size_fits, names}
+use Rattle.one_order.proofs.by_size.Goals as goal
+
+pub loop-a-init : goal.loop-a-init
+loop-a-init c =
+    unnamed c.args.k
+
+pub bounds-out-size : goal.bounds-out-size
+bounds-out-size c =
+    size_fits c.args.k c.row.result (search rules) c.size_below-size.ensures
+
+pub overflow_step-a : goal.overflow_step-a
+overflow_step-a c =
+    omega arith
+
+pub loop-a-smaller : goal.loop-a-smaller
+loop-a-smaller c =
+    omega arith
+
+pub loop-a-preserved : goal.loop-a-preserved
+loop-a-preserved c =
+    names c.loop-a.invariant c.loop-a-test.true (search rules) (size_fits c.args.k c.row.result (search rules) c.size_below-size.ensures)
+
+pub returns : goal.returns
+returns c =
+    c.loop-a.invariant.named
