@@ -7,6 +7,7 @@ ghost use Rattle.judge.specs.Within.{Within};
 use crate::answer::show;
 use crate::text::{say, say_number};
 use case::Case;
+use std::io::Read;
 
 // How far an input is judged.
 #[derive(Clone, Copy)]
@@ -24,13 +25,19 @@ pub struct Progress {
 }
 
 // One read behind the bytes that are held; an input that can't be read is left.
-fn read_on(fd: i32, name: &[u8], buffer: &mut [u8], p: Progress) -> Progress
+fn read_on<R: Read>(
+    errors: &impl Print,
+    input: &mut R,
+    name: &[u8],
+    buffer: &mut [u8],
+    p: Progress,
+) -> Progress
     requires within { Within p (length buffer.old) }
     requires at_in_bounds { p.have - p.at < length buffer.old }
     ensures within_2 { Within result (length buffer.old) }
     ensures buffer_len_unchanged { length buffer.new ≡ length buffer.old }
 {
-    let got = stream::read_on(fd, name, buffer, p.at, p.have);
+    let got = stream::read_on(errors, input, name, buffer, p.at, p.have);
     Progress {
         at: 0,
         have: got.have,
@@ -42,18 +49,18 @@ fn read_on(fd: i32, name: &[u8], buffer: &mut [u8], p: Progress) -> Progress
 }
 
 // The last line for an input that was judged to its end.
-fn say_end(records: u64) {
+fn say_end(rt: &impl Print, records: u64) {
     if records == 0 {
-        say(b"No record: the input is empty.\n\n");
+        say(rt, b"No record: the input is empty.\n\n");
         return;
     }
-    say(b"End of the input. Records judged: ");
-    say_number(records);
-    say(b"\n\n");
+    say(rt, b"End of the input. Records judged: ");
+    say_number(rt, records);
+    say(rt, b"\n\n");
 }
 
 // The next record of the buffer, or the end of the input.
-fn judge_next(buffer: &[u8], p: Progress) -> Progress
+fn judge_next(rt: &impl Print, buffer: &[u8], p: Progress) -> Progress
     requires { Within p (length buffer.now) }
     ensures { Within result (length buffer.now) }
 {
@@ -61,7 +68,7 @@ fn judge_next(buffer: &[u8], p: Progress) -> Progress
     let have = p.have;
     if at < have {
         let records = std::num::wrapping_add_u64(p.records, 1);
-        let length = show(&buffer[at..have], p.passed, records);
+        let length = show(rt, &buffer[at..have], p.passed, records);
         return Progress {
             at: at + length,
             have,
@@ -71,7 +78,7 @@ fn judge_next(buffer: &[u8], p: Progress) -> Progress
             done: length == 0,
         };
     }
-    say_end(p.records);
+    say_end(rt, p.records);
     Progress {
         at,
         have,
@@ -83,19 +90,26 @@ fn judge_next(buffer: &[u8], p: Progress) -> Progress
 }
 
 // Judges the next record once it is surely whole in the buffer, as no record is longer than Case::MOST_BYTES; reads on before.
-fn step(fd: i32, name: &[u8], buffer: &mut [u8], p: Progress) -> Progress
+fn step<R: Read>(
+    rt: &impl Print,
+    errors: &impl Print,
+    input: &mut R,
+    name: &[u8],
+    buffer: &mut [u8],
+    p: Progress,
+) -> Progress
     requires within { Within p (length buffer.old) }
     requires most_edition_in_bounds { most_bytes most_edition ≤ length buffer.old }
     ensures within_2 { Within result (length buffer.old) }
     ensures buffer_len_unchanged { length buffer.new ≡ length buffer.old }
 {
     if p.ended {
-        return judge_next(buffer, p);
+        return judge_next(rt, buffer, p);
     }
     if Case::MOST_BYTES <= p.have - p.at {
-        return judge_next(buffer, p);
+        return judge_next(rt, buffer, p);
     }
-    read_on(fd, name, buffer, p)
+    read_on(errors, input, name, buffer, p)
 }
 
 // Room for two records of any length: bytes are moved up once for as many as a record may take.
@@ -108,7 +122,7 @@ fn room() -> [u8; 2 * Case::MOST_BYTES]
 
 // Judges the records of an input, one after the other, to its end or to the first that can't be read. Nothing says that an
 // input ends, so the loop counts its turns down, from a number that no run uses up.
-pub fn judge_input(fd: i32, name: &[u8]) {
+pub fn judge_input<R: Read>(rt: &impl Print, errors: &impl Print, input: &mut R, name: &[u8]) {
     let mut space = room();
     let buffer: &mut [u8] = &mut space;
     let mut p = Progress {
@@ -121,7 +135,7 @@ pub fn judge_input(fd: i32, name: &[u8]) {
     };
     let mut turns = u64::MAX;
     while turns > 0 && !p.done {
-        p = step(fd, name, buffer, p);
+        p = step(rt, errors, input, name, buffer, p);
         turns -= 1;
     }
 }

@@ -1,73 +1,115 @@
 // Judges litmus records: back to back from standard input, or from the files named as arguments. Prints for each its name, its
 // events by thread, the verdict under both models and the final memory; or why it can't be read, and where.
+#![tactic(auto)]
+
 mod answer;
 mod input;
 mod text;
 
 use input::judge_input;
+use std::env::FillError;
+use std::fs::File;
+use std::io;
+use std::io::ErrorKind;
+use std::rt::{Env, Files};
+use stream::fail;
 use text::{say, say_escaped};
 
-fn say_usage() {
-    say(b"Judges litmus records under the models PPCw and PPCs. Records may lie back to back.\n\n");
-    say(b"    judge             judges the records of standard input\n");
-    say(b"    judge FILE ..     judges the records of each file\n");
-    say(b"    judge --help      prints this text\n\n");
+// Room for an argument, as long as a path may be.
+const ROOM: usize = 4096;
+
+// Linux's number of the error that a name is too long.
+const TOO_LONG: i32 = 36;
+
+fn say_usage(rt: &impl Print) {
     say(
+        rt,
+        b"Judges litmus records under the models PPCw and PPCs. Records may lie back to back.\n\n",
+    );
+    say(
+        rt,
+        b"    judge             judges the records of standard input\n",
+    );
+    say(
+        rt,
+        b"    judge FILE ..     judges the records of each file\n",
+    );
+    say(rt, b"    judge --help      prints this text\n\n");
+    say(
+        rt,
         b"Each record is answered by its name, its place and length, its events by thread (in edition 2\n",
     );
     say(
+        rt,
         b"also how many dependencies it has), and under each model either 'accepted' with the final\n",
     );
-    say(b"memory or the lowest rule that it breaks.\n");
+    say(rt, b"memory or the lowest rule that it breaks.\n");
     say(
+        rt,
         b"After a record that can't be read the rest of that input is left, since the next record\n",
     );
     say(
+        rt,
         b"can't be found. Bytes of FILE that don't print are shown as \\xHH, a backslash as two.\n",
     );
 }
 
-fn judge_path(path: &[u8]) {
-    let fd = os::open_read(path);
-    if fd < 0 {
-        os::fail(path);
-        return;
-    }
-    say(b"file ");
-    say_escaped(path);
-    say(b"\n\n");
-    judge_input(fd, path);
-    libc::close(fd);
-}
-
-// What argument i asks for.
-fn take_argument(i: usize) {
-    let mut path = io::buffer();
-    let length = os::arg(i, &mut path);
-    if os::errno() != 0 {
-        os::fail(b"argument");
-        return;
-    }
-    if check::same(&path[..length], b"--help") {
-        say_usage();
-        return;
-    }
-    judge_path(&path[..length]);
-}
-
-fn take_arguments(count: usize) {
-    let mut i: usize = 1;
-    while i < count {
-        take_argument(i);
-        i += 1;
+// Opens a file. The system is asked only for names that are text.
+fn opened<R: Files>(rt: &R, path: &[u8]) -> io::Result<R::File> {
+    match str::from_utf8(path) {
+        Ok(text) => File::open(rt, text),
+        Err(_) => Err(io::Error::from(ErrorKind::InvalidFilename)),
     }
 }
 
-fn main() {
-    let count = os::arg_count();
-    if count <= 1 {
-        judge_input(libc::STDIN_FILENO, b"standard input");
+fn judge_path(rt: &(impl Files + Print), errors: &impl Print, path: &[u8]) {
+    match opened(rt, path) {
+        Ok(mut file) => {
+            say(rt, b"file ");
+            say_escaped(rt, path);
+            say(rt, b"\n\n");
+            judge_input(rt, errors, &mut file, path);
+        }
+        Err(e) => fail(errors, path, &e),
+    }
+}
+
+// What an argument asks for.
+fn take_word(rt: &(impl Files + Print), errors: &impl Print, word: &[u8]) {
+    if check::same(word, b"--help") {
+        say_usage(rt);
         return;
     }
-    take_arguments(count);
+    judge_path(rt, errors, word);
+}
+
+// Does what argument i asks for, if there is one.
+fn take_argument(rt: &(impl Env + Files + Print), errors: &impl Print, i: usize) -> bool {
+    let mut word = [0u8; ROOM];
+    match rt.arg(i, &mut word) {
+        Ok(length) => take_word(rt, errors, &word[..length]),
+        Err(FillError::TooLong) => {
+            fail(errors, b"argument", &io::Error::from_raw_os_error(TOO_LONG));
+        }
+        Err(FillError::NotPresent) => return false,
+    }
+    true
+}
+
+// Does what the arguments from the second on ask for.
+fn take_arguments(rt: &(impl Env + Files + Print), errors: &impl Print) {
+    for i in 2..usize::MAX {
+        if !take_argument(rt, errors, i) {
+            return;
+        }
+    }
+}
+
+fn main(rt: HostRuntime) {
+    let errors = rt.stderr();
+    if take_argument(&rt, &errors, 1) {
+        take_arguments(&rt, &errors);
+        return;
+    }
+    judge_input(&rt, &errors, &mut rt.stdin(), b"standard input");
 }

@@ -11,7 +11,7 @@ use Rattle.stream.specs.declared.Got.{Got}
 use Rattle.stream.specs.Kept.{Kept, ReadOn}
 use Rattle.judge_log.specs.declared.input.Progress.{Progress}
 
--- the buffers of `io` and `os` that the program uses: for an argument, for what a write left over, for an error's words, for a number's digits
+-- more than the program's other buffers: its own for an argument, and those of std for what is printed, an error's words and a number's digits
 abbrev pub other_buffers : ℕ
 other_buffers = 4096 + 4096 + 64 + 20
 

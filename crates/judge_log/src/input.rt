@@ -5,6 +5,7 @@ ghost use Rattle.judge_log.specs.Progress.{Room, begun as begun_as, given_up, Ju
 
 use case::Case;
 use litmus::Tally;
+use std::io::Read;
 use stream::Got;
 
 // How far a log is judged.
@@ -125,18 +126,24 @@ fn after_read(buffer: &[u8], got: Got, p: Progress) -> Progress
 }
 
 // Reads on once.
-fn step(fd: i32, name: &[u8], buffer: &mut [u8], p: Progress) -> Progress
+fn step<R: Read>(
+    errors: &impl Print,
+    input: &mut R,
+    name: &[u8],
+    buffer: &mut [u8],
+    p: Progress,
+) -> Progress
     requires room { Room (length buffer.old) }
     requires ready { Ready buffer.old p }
     ensures { Stepped buffer.old p buffer.new result }
 {
-    let got = stream::read_on(fd, name, buffer, p.at, p.have);
+    let got = stream::read_on(errors, input, name, buffer, p.at, p.have);
     after_read(buffer, got, p)
 }
 
 // Judges the log on an input, to its end. Nothing says that an input ends, so the loop counts its turns down, from a number that no run
 // uses up.
-pub fn judge_input(fd: i32, name: &[u8]) -> Progress
+pub fn judge_input<R: Read>(errors: &impl Print, input: &mut R, name: &[u8]) -> Progress
     ensures { Finished result }
 {
     let mut space = room();
@@ -144,7 +151,7 @@ pub fn judge_input(fd: i32, name: &[u8]) -> Progress
     let mut p = begun();
     let mut turns = u64::MAX;
     while turns > 0 && !p.done {
-        p = step(fd, name, buffer, p);
+        p = step(errors, input, name, buffer, p);
         turns -= 1;
     }
     p

@@ -21,7 +21,7 @@ abbrev pub got_by : (have count fault : ℕ) → Got
 got_by have count fault = record { have = have; ended = eqb count 0 && eqb fault 0; failed = eqb fault 2 }
 
 -- after a read the buffer b' of the same size holds bytes up to r's, and those that were kept stand at its front. What was read stands
--- behind them; no contract can say what that is. An input has ended only where no byte came
+-- behind them; of that nothing is said. An input has ended only where no byte came
 pub record ReadOn (b : List ℕ) (at have : ℕ) (b' : List ℕ) (r : Got) : Type 0 where
   pub room : length b' ≡ length b
   pub front : take (have - at) b' ≡ kept b at have

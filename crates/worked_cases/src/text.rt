@@ -1,51 +1,50 @@
 // Words on standard output.
 use case::Case;
-use libc::STDOUT_FILENO;
 use litmus::Answer;
 
-pub fn say(text: &[u8]) {
-    io::write_all(STDOUT_FILENO, text);
+// Where a write fails the program goes on.
+pub fn say(rt: &impl Print, text: &[u8]) {
+    let _ = rt.write_all(text);
 }
 
-pub fn say_number(n: u64) {
-    io::print_decimal(STDOUT_FILENO, n);
+pub fn say_number(rt: &impl Print, n: u64) {
+    let _ = rt.print(n);
 }
 
-fn say_final(value: u32) {
-    say(b" ");
-    say_number(value as u64);
+fn say_final(rt: &impl Print, value: u32) {
+    say(rt, b" ");
+    say_number(rt, value as u64);
 }
 
-fn say_finals(finals: [u32; Case::MOST_ADDRESSES]) {
+fn say_finals(rt: &impl Print, finals: [u32; Case::MOST_ADDRESSES]) {
     let mut x: usize = 0;
     while x < Case::MOST_ADDRESSES {
-        say_final(finals[x]);
+        say_final(rt, finals[x]);
         x += 1;
     }
 }
 
 // An answer with all its fields.
-pub fn say_answer(a: Answer) {
-    say_number(a.number as u64);
-    say(b", place ");
-    say_number(a.place as u64);
-    say(b", length ");
-    say_number(a.length as u64);
-    say(b", finals");
+pub fn say_answer(rt: &impl Print, a: Answer) {
+    say_number(rt, a.number as u64);
+    say(rt, b", place ");
+    say_number(rt, a.place as u64);
+    say(rt, b", length ");
+    say_number(rt, a.length as u64);
+    say(rt, b", finals");
     let finals = a.finals;
-    say_finals(finals);
+    say_finals(rt, finals);
 }
 
-fn say_byte(b: u8) {
-    say(b" ");
-    io::print_hex(STDOUT_FILENO, b as u64, 2);
+fn say_byte(rt: &impl Print, b: u8) {
+    let _ = rt.print(format_args!(" {b:02x}"));
 }
 
 // Bytes as two hexadecimal digits each.
-pub fn say_bytes(bytes: &[u8]) {
+pub fn say_bytes(rt: &impl Print, bytes: &[u8]) {
     let mut i: usize = 0;
     while i < bytes.len() {
-        say_byte(bytes[i]);
+        say_byte(rt, bytes[i]);
         i += 1;
     }
 }
