@@ -6,7 +6,6 @@ use mathlib.Core.Path.{◌≡◌, sym, ap, ◌∙◌}
 use mathlib.Core.List.{[]}
 use lib.ListN.{length}
 use Rattle.model.specs.Limits.{most_addresses}
-use Rattle.storage_model.specs.Subsystem.{initial}
 use Rattle.storage_model.specs.Answers.{no_state}
 use Rattle.case.specs.Held.{pad}
 use Rattle.storage.specs.Held.{held, empty_storage}

@@ -1,4 +1,6 @@
 // The judging of a trace: its steps taken one after the other, up to the first that is not enabled.
+#![tactic(auto)]
+
 ghost use Rattle.std.specs.Prelude.{◌≡◌};
 ghost use Rattle.number.specs.Reader.{stop};
 ghost use Rattle.storage_model.specs.Subsystem.{refused, run as run_of};

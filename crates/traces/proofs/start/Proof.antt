@@ -1,8 +1,0 @@
--- `traces::start` meets its contract. Assumes nothing.
-use borrow.Author.Rules.{rules}
-use Rattle.traces.proofs.Ends.{started}
-use Rattle.traces.proofs.start.Statement.{statement}
-use Rattle.traces.proofs.start.Tie as tie
-
-pub start_spec : {M : Type 1} → statement M
-start_spec = tie.close (tie.spec (λ c κs. search rules) (λ c. search started))
