@@ -1,7 +1,7 @@
 -- The rules' tests by a struct's rows and sets are the rules of the case that it means.
 -- Assumes nothing.
 use Prim.Native.Nat.{ℕ, ◌+◌, ◌*◌, ◌≤◌, ◌<◌}
-use native.Mathlib.Nat.{le_trans, lt_of_lt_of_le}
+use native.Mathlib.Nat.{lt_of_lt_of_le}
 use native.Mathlib.Omega.{arith}
 use mathlib.Core.Path.{◌≡◌, refl, sym, ap, ap₂, ◌∙◌, subst}
 use mathlib.Core.Bool.{Bool, true, false, not, ◌&&◌, ◌||◌}
@@ -18,7 +18,7 @@ use Rattle.bits.proofs.Bits.{bit-or}
 use Rattle.model.specs.Limits.{most_threads, most_addresses, most_events, most_dependencies}
 use Rattle.model.specs.Case.{bare, load, store, sync}
 use Rattle.model.specs.Record.{store_to}
-use Rattle.model.specs.Rules.{Model, PPCw, PPCs, first, kind, thread, address, value, initial, is_load, is_store, is_barrier, of, one_address, depends, applicable, store_for, before, everywhere, written, paired, seen, reads_from, judged, or_else, rule11, rule12, rule13, rule14, rule15, rule16, rule17, rule18, verdict}
+use Rattle.model.specs.Rules.{Model, PPCw, PPCs, first, kind, thread, address, value, initial, is_load, is_store, is_barrier, of, one_address, applicable, store_for, before, everywhere, written, paired, seen, reads_from, judged, or_else, rule11, rule12, rule13, rule14, rule15, rule16, rule17, rule18, verdict}
 use Rattle.case.specs.declared.Case.{Case as Held}
 use Rattle.case.specs.Held.{link_count, case_of}
 use Rattle.case.specs.Sound.{Sound}

@@ -1,4 +1,6 @@
 // A case's verdict and its final memory.
+#![tactic(auto)]
+
 ghost use Rattle.std.specs.Prelude.{◌≡◌, true, ◌&&◌, ℕ, ◌+◌, ◌*◌, ◌<◌, ◌≤◌, eqb, ltb, get_or};
 ghost use Rattle.finite.specs.Tests.{count};
 ghost use Rattle.bits.specs.Bit.{bit};
