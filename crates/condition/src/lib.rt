@@ -1,4 +1,6 @@
 // Whether a condition in text holds for a case without fault.
+#![tactic(auto)]
+
 ghost use Rattle.std.specs.Prelude.{◌≡◌, ◌≤◌};
 ghost use Rattle.finite.specs.Tests.{tick};
 ghost use Rattle.number.specs.Reader.{next};
