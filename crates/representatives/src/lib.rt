@@ -1,4 +1,6 @@
 // The calls about classes on records: a record's representative, and the lesser of two records.
+#![tactic(auto)]
+
 ghost use Rattle.std.specs.Prelude.{◌≡◌};
 ghost use Rattle.answers.specs.Shown.{shown};
 ghost use Rattle.classes.specs.Representative.{representative_record, choice as choice_of, lesser as lesser_of};
