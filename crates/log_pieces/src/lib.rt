@@ -1,4 +1,6 @@
 // Judging a log of records as it comes: every record of a piece is added to a tally.
+#![tactic(auto)]
+
 ghost use Rattle.std.specs.Prelude.{◌≡◌, ◌+◌, ◌^◌, ◌<◌, ◌≤◌, true, length, drop};
 ghost use Rattle.model.specs.Limits.{most_edition};
 ghost use Rattle.model.specs.Bound.{most_bytes};
