@@ -1,4 +1,6 @@
 // Records in a lent area, stored one byte at a time, so that a cut loses no finished frame.
+#![tactic(auto)]
+
 ghost use Rattle.std.specs.Prelude.{◌≡◌, suc, ◌+◌, ◌≤◌, ◌<◌, leb, length, take, drop};
 ghost use Rattle.finite.specs.Lists.{every};
 ghost use Rattle.model.specs.Record.{read};
