@@ -1,4 +1,6 @@
 // A case by value: one candidate execution, with what each thread saw in which order.
+#![tactic(auto)]
+
 ghost use Rattle.std.specs.Prelude.{◌≡◌, ◌&&◌, ◌||◌, not, [], ◌∷◌, ◌+◌, ◌*◌, ◌≤◌, ◌<◌, leb, eqb, get_or};
 ghost use Rattle.finite.specs.Tests.{all, count};
 ghost use Rattle.finite.specs.Lists.{table};

@@ -1,6 +1,6 @@
 -- Lists of judging and renumbering calls, the composed permutations beside them, and what is claimed of every list (01, "Renumbering labels").
 -- Assumes nothing.
-use Rattle.std.specs.Prelude.{◌≡◌, Bool, false, ◌&&◌, cond, List, [], ◌∷◌, ◌++◌, ℕ, ◌+◌, eqb, length, take, drop}
+use Rattle.std.specs.Prelude.{◌≡◌, Bool, false, ◌&&◌, cond, List, [], ◌∷◌, ◌++◌, ℕ, eqb, take, drop}
 use Rattle.number.specs.Number.{splice}
 use Rattle.number.specs.Reader.{Out, stop, next}
 use Rattle.permutation.specs.Permutation.{composite, fits}

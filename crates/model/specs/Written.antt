@@ -1,6 +1,6 @@
 -- A case's record: the bytes that the layout gives it.
 -- Assumes nothing.
-use Rattle.std.specs.Prelude.{ℕ, zero, suc, ◌+◌, cond, List, [], ◌∷◌, ◌++◌, length}
+use Rattle.std.specs.Prelude.{ℕ, zero, suc, cond, List, [], ◌∷◌, ◌++◌, length}
 use Rattle.finite.specs.Lists.{each}
 use Rattle.number.specs.Number.{encode}
 use Rattle.bits.specs.Bit.{bit}

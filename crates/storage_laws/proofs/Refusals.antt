@@ -6,8 +6,7 @@ use mathlib.Core.Path.{◌≡◌}
 use mathlib.Core.List.{List, [], ◌++◌}
 use lib.Dec.{eqb}
 use lib.ListN.{length}
-use Rattle.number.specs.Reader.{stop, ◌>>=◌, times}
-use Rattle.number.specs.declared.NumberRead.TheVariants as the
+use Rattle.number.specs.Reader.{stop, times}
 use Rattle.number.proofs.Forms.{WrongForm}
 use Rattle.codec.proofs.Steady.{Stays, Steady, steady_bind, steady_last, steady_unless, steady_up_to, steady_within, steady_below, steady_under, steady_turns, steady_if}
 use Rattle.storage_model.specs.Layout.{accept_write_fields, accept_barrier_fields, propagate_write_fields, propagate_barrier_fields, commit_fields, respond_fields, acknowledge_fields, fields, room_for, step, listing, trace, read_trace}

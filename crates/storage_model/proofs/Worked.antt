@@ -8,9 +8,9 @@ use Rattle.finite.specs.Tests.{all, some}
 use Rattle.finite.specs.Lists.{table, each, every}
 use Rattle.number.specs.Number.{after, read_groups, finish, read_number, encode_by, encode}
 use Rattle.number.specs.Reader.{unless, turns, times, up_to, within, below, under}
-use Rattle.storage_model.specs.Trace.{Step, accept_write, accept_barrier, propagate_write, propagate_barrier, commit, acknowledge, writes_in, barriers_in}
+use Rattle.storage_model.specs.Trace.{accept_write, accept_barrier, propagate_write, propagate_barrier, commit, acknowledge, writes_in, barriers_in}
 use Rattle.storage_model.specs.Relation.{relation, related, reached, closure, irreflexive, acyclic}
-use Rattle.storage_model.specs.Subsystem.{State, Ran, accepted, write, barrier, same, member, precedes, writer, address, value, owner, class, events, arrived, coherent, group_a, separated, latest, write_is_new, write_is_after, barriers_went_before, barrier_is_new, group_a_went_before, committed, to_one_address, unrelated, responds_latest, acyclic_with, unacknowledged_sync, everywhere, enabled, failing, followed, effect, initial, run_from, run}
+use Rattle.storage_model.specs.Subsystem.{accepted, write, barrier, same, member, precedes, writer, address, value, owner, class, events, arrived, coherent, group_a, separated, latest, write_is_new, write_is_after, barriers_went_before, barrier_is_new, group_a_went_before, committed, to_one_address, unrelated, responds_latest, acyclic_with, unacknowledged_sync, everywhere, enabled, failing, followed, effect, initial, run_from, run}
 use Rattle.storage_model.specs.Layout.{accept_write_fields, accept_barrier_fields, propagate_write_fields, propagate_barrier_fields, commit_fields, respond_fields, acknowledge_fields, fields, room_for, step, listing, trace, read_trace}
 use Rattle.storage_model.specs.Written.{step_bytes, trace_bytes}
 use Rattle.storage_model.specs.Answers.{judge_trace}

@@ -1,7 +1,7 @@
 -- A trace, byte by byte: what reading it answers (02 (ii)): "A trace in our number groups: n, m, initial values, step count up to 128,
 -- steps."
 -- Assumes nothing.
-use Rattle.std.specs.Prelude.{ℕ, zero, suc, Bool, cond, ◌&&◌, List, [], ltb, eqb}
+use Rattle.std.specs.Prelude.{ℕ, Bool, cond, ◌&&◌, List, [], ltb, eqb}
 use Rattle.finite.specs.Tests.{◌⇒◌}
 use Rattle.number.specs.Reader.{Out, Reader, give, ◌>>=◌, unless, turns, another, times, up_to, within, below, under}
 use Rattle.model.specs.Limits.{most_threads, most_addresses, most_value}

@@ -2,12 +2,12 @@
 -- The initial writes are not numbered: each has been propagated to all threads before any step and comes before every other write to its
 -- address, so no condition fails by them; a read response takes the initial value where no other write has been propagated.
 -- Assumes nothing.
-use Rattle.std.specs.Prelude.{ℕ, zero, suc, ◌+◌, Bool, true, false, not, cond, ◌&&◌, ◌||◌, List, [], ◌∷◌, ◌++◌, eqb, length, get_or, set, replicate}
+use Rattle.std.specs.Prelude.{ℕ, suc, Bool, true, false, not, cond, ◌&&◌, ◌||◌, List, [], ◌∷◌, ◌++◌, eqb, length, get_or, set, replicate}
 use Rattle.finite.specs.Tests.{all, some, ◌⇒◌}
 use Rattle.model.specs.Limits.{most_threads, most_addresses}
 use Rattle.model.specs.Rules.{or_else}
 use Rattle.storage_model.specs.Trace.{Trace, Step, accept_write, accept_barrier, propagate_write, propagate_barrier, commit, respond, acknowledge, sync, lwsync}
-use Rattle.storage_model.specs.Relation.{Relation, related, relation, closure, acyclic}
+use Rattle.storage_model.specs.Relation.{Relation, related, closure, acyclic}
 
 pub record Write : Type 0 where
   pub thread : ℕ

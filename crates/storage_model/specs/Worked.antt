@@ -1,8 +1,8 @@
 -- The worked traces: of 002's tests, of each condition of its section 4.3, and of the layout.
 -- Assumes nothing.
-use Rattle.std.specs.Prelude.{ℕ, zero, suc, ◌+◌, Bool, true, false, ◌&&◌, List, [], ◌∷◌, ◌++◌, eqb, length, replicate}
+use Rattle.std.specs.Prelude.{ℕ, zero, suc, Bool, ◌&&◌, List, [], ◌∷◌, ◌++◌, eqb, length}
 use Rattle.finite.specs.Lists.{every}
-use Rattle.storage_model.specs.Trace.{Trace, Step, accept_write, accept_barrier, propagate_write, propagate_barrier, commit, respond, acknowledge}
+use Rattle.storage_model.specs.Trace.{Step, accept_write, accept_barrier, propagate_write, propagate_barrier, commit, respond, acknowledge}
 use Rattle.storage_model.specs.Written.{trace_bytes}
 use Rattle.storage_model.specs.Answers.{Answer, judge_trace}
 

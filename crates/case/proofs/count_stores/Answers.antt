@@ -1,9 +1,5 @@
 -- `case::count_stores` meets its contract. Assumes nothing.
-use Prim.Native.Nat.{◌-◌}
-use mathlib.Core.Logic.{⊎_elim}
-use borrow.Author.Rules.{rules}
-use Rattle.finite.proofs.Loops.{Counting, counting_begun, counted-all, one-counted, not-counted}
-use Rattle.case.specs.Stores.{store_at}
+use Rattle.finite.proofs.Loops.{counting_begun, counted-all, one-counted, not-counted}
 use Rattle.case.proofs.count_stores.Goals.{then-store_at, else-store_at}
 use Rattle.case.proofs.count_stores.Goals as goal
 

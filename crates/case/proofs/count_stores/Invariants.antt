@@ -1,8 +1,6 @@
 -- `case::count_stores` meets its contract. Assumes nothing.
 use Prim.Native.Nat.{◌-◌}
-use mathlib.Core.Logic.{⊎_elim}
-use borrow.Author.Rules.{rules}
-use Rattle.finite.proofs.Loops.{Counting, counting_begun, counted-all, one-counted, not-counted}
+use Rattle.finite.proofs.Loops.{Counting}
 use Rattle.case.specs.Stores.{store_at}
 use Rattle.case.proofs.count_stores.Given as goal
 

@@ -1,5 +1,4 @@
 -- `case::dependencies_fault` meets its contract. Assumes nothing.
-use borrow.Author.Rules.{rules}
 use Rattle.case.proofs.Means.{many_links, those_links}
 use Rattle.case.proofs.dependencies_fault.Goals as goal
 

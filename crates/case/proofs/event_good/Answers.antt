@@ -1,5 +1,4 @@
 -- `case::event_good` meets its contract. Assumes nothing.
-use borrow.Author.Rules.{rules}
 use Rattle.case.proofs.Tested.{no_kind, no_thread, good_bare, no_address, by_value}
 use Rattle.case.proofs.event_good.Goals as goal
 

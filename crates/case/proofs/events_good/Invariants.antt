@@ -1,8 +1,7 @@
 -- `case::events_good` meets its contract. Assumes nothing.
 use Prim.Native.Nat.{◌-◌}
-use borrow.Author.Rules.{rules}
 use lib.ListN.{get_or}
-use Rattle.finite.proofs.Loops.{Passed, begun, fails, passes, ends}
+use Rattle.finite.proofs.Loops.{Passed}
 use Rattle.model.specs.Fault.{event_good}
 use Rattle.case.specs.Held.{event_of}
 use Rattle.case.proofs.events_good.Given as goal

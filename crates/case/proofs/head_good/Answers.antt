@@ -1,5 +1,4 @@
 -- `case::head_good` meets its contract. Assumes nothing.
-use borrow.Author.Rules.{rules}
 use Rattle.case.proofs.Tested.{all_three, second-not, first-not}
 use Rattle.case.proofs.head_good.Goals as goal
 

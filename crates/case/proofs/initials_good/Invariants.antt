@@ -1,12 +1,8 @@
 -- `case::initials_good` meets its contract. Assumes nothing.
 use Prim.Native.Nat.{◌-◌}
-use borrow.Author.Rules.{rules}
-use mathlib.Core.Path.{sym}
-use borrow.Author.Tests.{le-leb, lt-leb}
-use Rattle.finite.proofs.Tests.{all-not}
 use lib.Dec.{leb}
 use lib.ListN.{get_or}
-use Rattle.finite.proofs.Loops.{Passed, begun, one_more, ends}
+use Rattle.finite.proofs.Loops.{Passed}
 use Rattle.model.specs.Limits.{most_value}
 use Rattle.case.proofs.initials_good.Given as goal
 

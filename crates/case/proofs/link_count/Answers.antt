@@ -1,5 +1,4 @@
 -- `case::link_count` meets its contract. Assumes nothing.
-use borrow.Author.Rules.{rules}
 use mathlib.Core.Path.{sym, ◌∙◌}
 use Rattle.case.specs.Held.{link_count}
 use Rattle.case.proofs.link_count.Goals as goal

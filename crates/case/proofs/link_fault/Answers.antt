@@ -1,5 +1,4 @@
 -- `case::link_fault` meets its contract. Assumes nothing.
-use borrow.Author.Rules.{rules}
 use Rattle.case.proofs.Links.{out_of_range, in_class, in_from, in_to, unfit, fit}
 use Rattle.case.proofs.link_fault.Goals as goal
 

@@ -1,5 +1,4 @@
 -- `case::link_follows` meets its contract. Assumes nothing.
-use borrow.Author.Rules.{rules}
 use Rattle.case.proofs.Links.{high_enough, too_low}
 use Rattle.case.proofs.link_follows.Goals as goal
 

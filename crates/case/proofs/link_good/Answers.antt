@@ -1,5 +1,4 @@
 -- `case::link_good` meets its contract. Assumes nothing.
-use borrow.Author.Rules.{rules}
 use Rattle.case.proofs.Links.{no_load, not_later, other_thread, by_end}
 use Rattle.case.proofs.link_good.Goals as goal
 

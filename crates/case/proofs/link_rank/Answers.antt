@@ -1,5 +1,4 @@
 -- `case::link_rank` meets its contract. Assumes nothing.
-use borrow.Author.Rules.{rules}
 use Rattle.case.proofs.Links.{row_fits, sum_fits, scale_fits, rank-fits}
 use Rattle.case.proofs.link_rank.Goals as goal
 

@@ -1,8 +1,5 @@
 -- `case::links_fault` meets its contract. Assumes nothing.
-use Prim.Native.Nat.{◌-◌}
-use borrow.Author.Rules.{rules}
-use Rattle.case.specs.Held.{good_at}
-use Rattle.case.proofs.Links.{Linking, linking_begun, linking_done, linking_found, linking_class, linking_from, linking_to, linking_fits, linking_next}
+use Rattle.case.proofs.Links.{linking_begun, linking_done, linking_found, linking_class, linking_from, linking_to, linking_fits, linking_next}
 use Rattle.case.proofs.links_fault.Goals as goal
 
 pub loop-i-init : goal.loop-i-init

@@ -1,5 +1,4 @@
 -- `case::may_end` meets its contract. Assumes nothing.
-use borrow.Author.Rules.{rules}
 use Rattle.case.proofs.Links.{no_access, address_ends, store_ends}
 use Rattle.case.proofs.may_end.Goals as goal
 

@@ -1,5 +1,4 @@
 -- `case::most_kind` meets its contract. Assumes nothing.
-use borrow.Author.Rules.{rules}
 use mathlib.Core.Path.{sym, ◌∙◌}
 use Rattle.model.specs.Case.{most_kind}
 use Rattle.case.proofs.most_kind.Goals as goal

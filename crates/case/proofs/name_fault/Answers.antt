@@ -1,5 +1,4 @@
 -- `case::name_fault` meets its contract. Assumes nothing.
-use borrow.Author.Rules.{rules}
 use Rattle.case.proofs.Means.{long-name, bad-name, good_name}
 use Rattle.case.proofs.name_fault.Goals as goal
 

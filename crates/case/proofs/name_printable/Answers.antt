@@ -1,9 +1,5 @@
 -- `case::name_printable` meets its contract. Assumes nothing.
-use Prim.Native.Nat.{◌-◌}
-use borrow.Author.Rules.{rules}
-use lib.ListN.{get_or}
-use Rattle.finite.proofs.Loops.{Passed, begun, fails, passes, ends}
-use Rattle.model.specs.Case.{printable}
+use Rattle.finite.proofs.Loops.{begun, fails, passes, ends}
 use Rattle.case.proofs.name_printable.Goals as goal
 
 pub loop-i-init : goal.loop-i-init

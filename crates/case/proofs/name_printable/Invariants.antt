@@ -1,8 +1,7 @@
 -- `case::name_printable` meets its contract. Assumes nothing.
 use Prim.Native.Nat.{◌-◌}
-use borrow.Author.Rules.{rules}
 use lib.ListN.{get_or}
-use Rattle.finite.proofs.Loops.{Passed, begun, fails, passes, ends}
+use Rattle.finite.proofs.Loops.{Passed}
 use Rattle.model.specs.Case.{printable}
 use Rattle.case.proofs.name_printable.Given as goal
 

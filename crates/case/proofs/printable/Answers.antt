@@ -1,5 +1,4 @@
 -- `case::printable` meets its contract. Assumes nothing.
-use borrow.Author.Rules.{rules}
 use Rattle.case.proofs.Tested.{of_name}
 use Rattle.case.proofs.printable.Goals as goal
 

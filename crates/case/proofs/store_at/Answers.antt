@@ -1,5 +1,4 @@
 -- `case::store_at` meets its contract. Assumes nothing.
-use borrow.Author.Rules.{rules}
 use Rattle.case.proofs.WriteOrders.{is_store, no-store}
 use Rattle.case.proofs.store_at.Goals as goal
 

@@ -1,5 +1,4 @@
 -- `case::unlisted` meets its contract. Assumes nothing.
-use borrow.Author.Rules.{rules}
 use Rattle.case.proofs.WriteOrders.{not_listed, not_mine}
 use Rattle.case.proofs.unlisted.Goals as goal
 

@@ -1,9 +1,6 @@
 -- `case::write_fault` meets its contract. Assumes nothing.
-use Prim.Native.Nat.{◌-◌}
 use native.Mathlib.Nat.{le_trans}
-use borrow.Author.Rules.{rules}
-use Rattle.case.specs.Stores.{store_at}
-use Rattle.case.proofs.WriteOrders.{Listing, listing-begun, listing_done, no-event, not-unlisted, one-listed, entry, of_order, few-stores}
+use Rattle.case.proofs.WriteOrders.{listing-begun, listing_done, no-event, not-unlisted, one-listed, of_order, few-stores}
 use mathlib.Core.Path.{ap}
 use mathlib.Core.Bool.{not}
 use Rattle.case.proofs.write_fault.Goals as goal

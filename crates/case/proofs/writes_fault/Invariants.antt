@@ -1,8 +1,7 @@
 -- `case::writes_fault` meets its contract. Assumes nothing.
 use Prim.Native.Nat.{◌-◌}
-use borrow.Author.Rules.{rules}
 use Rattle.case.specs.Stores.{store_at, writes_at}
-use Rattle.case.proofs.WriteOrders.{Faultless, none_yet, none_at_all, found-one, found_none}
+use Rattle.case.proofs.WriteOrders.{Faultless}
 use Rattle.case.proofs.writes_fault.Given as goal
 
 abbrev pub invariant-loop-x : goal.invariant-loop-x

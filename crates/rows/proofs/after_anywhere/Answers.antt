@@ -1,9 +1,6 @@
 -- `rows::after_anywhere` meets its contract. Assumes nothing.
-use Prim.Native.Nat.{◌-◌}
-use borrow.Author.Rules.{rules}
 use native.Mathlib.Omega.{arith}
-use Rattle.rows.specs.Sets.{order_in}
-use Rattle.rows.proofs.Loops.{United, empty, joins, united}
+use Rattle.rows.proofs.Loops.{empty, joins, united}
 use Rattle.rows.proofs.SetLaws.{as_set}
 use Rattle.rows.proofs.after_anywhere.Goals as goal
 

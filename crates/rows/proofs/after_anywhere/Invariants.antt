@@ -1,10 +1,7 @@
 -- `rows::after_anywhere` meets its contract. Assumes nothing.
 use Prim.Native.Nat.{◌-◌}
-use borrow.Author.Rules.{rules}
-use native.Mathlib.Omega.{arith}
 use Rattle.rows.specs.Sets.{order_in}
-use Rattle.rows.proofs.Loops.{United, empty, joins, united}
-use Rattle.rows.proofs.SetLaws.{as_set}
+use Rattle.rows.proofs.Loops.{United}
 use Rattle.rows.proofs.after_anywhere.Given as goal
 
 abbrev pub invariant-loop-p : goal.invariant-loop-p

@@ -1,5 +1,4 @@
 -- `rows::alone` meets its contract. Assumes nothing.
-use borrow.Author.Rules.{rules}
 use Rattle.rows.proofs.SetLaws.{single}
 use Rattle.rows.proofs.alone.Goals as goal
 

@@ -1,5 +1,4 @@
 -- `rows::any` meets its contract. Assumes nothing.
-use borrow.Author.Rules.{rules}
 use Rattle.rows.proofs.SetLaws.{masked, none_below, some_below}
 use Rattle.rows.proofs.any.Goals as goal
 

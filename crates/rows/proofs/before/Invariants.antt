@@ -1,12 +1,9 @@
 -- `rows::before` meets its contract. Assumes nothing.
 use Prim.Native.Nat.{◌-◌}
-use borrow.Author.Rules.{rules}
-use native.Mathlib.Omega.{arith}
 use mathlib.Core.Bool.{◌&&◌}
 use lib.Dec.{eqb}
 use Rattle.rows.specs.Sets.{order_in}
-use Rattle.rows.proofs.Loops.{United, empty, joins, united}
-use Rattle.rows.proofs.SetLaws.{set_same, some_only}
+use Rattle.rows.proofs.Loops.{United}
 use Rattle.rows.proofs.before.Given as goal
 
 abbrev pub invariant-loop-a : goal.invariant-loop-a

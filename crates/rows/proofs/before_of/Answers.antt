@@ -1,12 +1,11 @@
 -- `rows::before_of` meets its contract. Assumes nothing.
-use borrow.Author.Rules.{rules}
 use native.Mathlib.Omega.{arith}
 use lib.Dec.{eqb}
 use Rattle.rows.specs.Sets.{order_in}
 use Rattle.bits.specs.Bit.{bit}
 use mathlib.Core.Bool.{◌&&◌}
 use mathlib.Core.Path.{ap}
-use Rattle.rows.proofs.Visits.{Gathered, gather_none, gather_in, gather_of, gather_next, gather_all, lowest_less}
+use Rattle.rows.proofs.Visits.{gather_none, gather_in, gather_of, gather_next, gather_all, lowest_less}
 use Rattle.rows.proofs.SetLaws.{masked, set_same, some_only}
 use Rattle.rows.proofs.before_of.Goals as goal
 

@@ -1,5 +1,4 @@
 -- `rows::before_one` meets its contract. Assumes nothing.
-use borrow.Author.Rules.{rules}
 use Rattle.rows.proofs.SetLaws.{so_set}
 use Rattle.rows.proofs.before_one.Goals as goal
 

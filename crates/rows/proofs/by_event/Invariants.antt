@@ -1,12 +1,10 @@
 -- `rows::by_event` meets its contract. Assumes nothing.
 use Prim.Native.Nat.{◌-◌}
-use borrow.Author.Rules.{rules}
-use native.Mathlib.Omega.{arith}
 use mathlib.Core.Bool.{◌&&◌}
 use lib.ListN.{get_or}
 use Rattle.rows.specs.Sets.{set_in}
 use Rattle.bits.specs.Bit.{bit}
-use Rattle.rows.proofs.Loops.{Filled, unfilled, fills, filled}
+use Rattle.rows.proofs.Loops.{Filled}
 use Rattle.rows.proofs.by_event.Given as goal
 
 abbrev pub invariant-loop-e : goal.invariant-loop-e

@@ -1,5 +1,5 @@
 -- `rows::by_label` meets its contract. Assumes nothing.
-use Prim.Native.Nat.{ℕ, ◌-◌}
+use Prim.Native.Nat.{ℕ}
 use borrow.Author.Rules.{rules}
 use native.Mathlib.Omega.{arith}
 use mathlib.Core.Path.{sym, subst, refl}
@@ -8,8 +8,7 @@ use lib.Dec.{eqb, ltb}
 use lib.ListN.{get_or}
 use Rattle.rows.specs.Sets.{Set}
 use Rattle.bits.specs.Bit.{bit}
-use Rattle.rows.proofs.Loops.{Filled, unfilled, fills, filled}
-use Rattle.model.specs.Limits.{most_threads}
+use Rattle.rows.proofs.Loops.{unfilled, fills, filled}
 use Rattle.rows.proofs.SetLaws.{share, as_set}
 use Rattle.rows.proofs.by_label.Goals as goal
 

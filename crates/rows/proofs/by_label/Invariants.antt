@@ -1,16 +1,11 @@
 -- `rows::by_label` meets its contract. Assumes nothing.
-use Prim.Native.Nat.{ℕ, ◌-◌}
-use borrow.Author.Rules.{rules}
-use native.Mathlib.Omega.{arith}
-use mathlib.Core.Path.{sym, subst, refl}
+use Prim.Native.Nat.{◌-◌}
 use mathlib.Core.Bool.{◌&&◌}
 use lib.Dec.{eqb, ltb}
 use lib.ListN.{get_or}
-use Rattle.rows.specs.Sets.{Set}
 use Rattle.bits.specs.Bit.{bit}
-use Rattle.rows.proofs.Loops.{Filled, unfilled, fills, filled}
+use Rattle.rows.proofs.Loops.{Filled}
 use Rattle.model.specs.Limits.{most_threads}
-use Rattle.rows.proofs.SetLaws.{share, as_set}
 use Rattle.rows.proofs.by_label.Given as goal
 
 abbrev pub invariant-loop-x : goal.invariant-loop-x

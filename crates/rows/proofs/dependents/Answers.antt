@@ -1,11 +1,11 @@
 -- `rows::dependents` meets its contract. Assumes nothing.
-use Prim.Native.Nat.{◌-◌, ◌<◌}
+use Prim.Native.Nat.{◌<◌}
 use borrow.Author.Rules.{rules}
 use native.Mathlib.Omega.{arith}
 use mathlib.Core.Path.{refl}
 use lib.ListN.{get_or}
 use Rattle.model.specs.Limits.{most_events}
-use Rattle.rows.proofs.Loops.{Linked, unlinked, links, linked}
+use Rattle.rows.proofs.Loops.{unlinked, links, linked}
 use Rattle.rows.proofs.dependents.Goals.{In-loop-i}
 use Rattle.rows.proofs.dependents.Goals as goal
 

@@ -1,11 +1,6 @@
 -- `rows::dependents` meets its contract. Assumes nothing.
-use Prim.Native.Nat.{◌-◌, ◌<◌}
-use borrow.Author.Rules.{rules}
-use native.Mathlib.Omega.{arith}
-use mathlib.Core.Path.{refl}
-use lib.ListN.{get_or}
-use Rattle.model.specs.Limits.{most_events}
-use Rattle.rows.proofs.Loops.{Linked, unlinked, links, linked}
+use Prim.Native.Nat.{◌-◌}
+use Rattle.rows.proofs.Loops.{Linked}
 use Rattle.rows.proofs.dependents.Given as goal
 
 abbrev pub invariant-loop-i : goal.invariant-loop-i

@@ -1,12 +1,9 @@
 -- `rows::labelled` meets its contract. Assumes nothing.
 use Prim.Native.Nat.{◌-◌}
-use borrow.Author.Rules.{rules}
-use native.Mathlib.Omega.{arith}
 use mathlib.Core.Bool.{◌&&◌}
 use lib.Dec.{eqb}
 use lib.ListN.{get_or}
-use Rattle.rows.proofs.Loops.{United, empty, joins, united}
-use Rattle.rows.proofs.SetLaws.{set_same, some_only}
+use Rattle.rows.proofs.Loops.{United}
 use Rattle.rows.proofs.labelled.Given as goal
 
 abbrev pub invariant-loop-e : goal.invariant-loop-e

@@ -1,5 +1,4 @@
 -- `rows::labelled_one` meets its contract. Assumes nothing.
-use borrow.Author.Rules.{rules}
 use Rattle.rows.proofs.SetLaws.{so_set}
 use mathlib.Core.Path.{refl}
 use lib.Dec.{eqb}

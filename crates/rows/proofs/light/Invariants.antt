@@ -1,11 +1,9 @@
 -- `rows::light` meets its contract. Assumes nothing.
 use Prim.Native.Nat.{◌-◌}
-use borrow.Author.Rules.{rules}
-use native.Mathlib.Omega.{arith}
 use mathlib.Core.Bool.{◌&&◌}
 use lib.Dec.{ltb}
 use Rattle.rows.specs.Sets.{light_in}
-use Rattle.rows.proofs.Loops.{Filled, unfilled, fills, filled}
+use Rattle.rows.proofs.Loops.{Filled}
 use Rattle.rows.proofs.light.Given as goal
 
 abbrev pub invariant-loop-e : goal.invariant-loop-e

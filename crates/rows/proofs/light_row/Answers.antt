@@ -1,5 +1,4 @@
 -- `rows::light_row` meets its contract. Assumes nothing.
-use borrow.Author.Rules.{rules}
 use Rattle.rows.proofs.SetLaws.{light_set}
 use Rattle.rows.proofs.light_row.Goals as goal
 

@@ -2,7 +2,6 @@
 use native.Mathlib.Omega.{arith}
 use lib.Count.{trailing_le}
 use Rattle.bits.specs.Bit.{width}
-use borrow.Author.Rules.{rules}
 use Rattle.rows.proofs.lowest.Goals as goal
 
 pub overflow_cast-result : goal.overflow_cast-result

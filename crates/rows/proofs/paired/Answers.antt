@@ -1,6 +1,5 @@
 -- `rows::paired` meets its contract. Assumes nothing.
-use Prim.Native.Nat.{ℕ, ◌-◌}
-use borrow.Author.Rules.{rules}
+use Prim.Native.Nat.{ℕ}
 use native.Mathlib.Omega.{arith}
 use mathlib.Core.Path.{subst}
 use mathlib.Core.Bool.{◌&&◌, ◌||◌}
@@ -8,7 +7,7 @@ use lib.Dec.{eqb, ltb}
 use Rattle.finite.specs.Tests.{some}
 use Rattle.rows.specs.Sets.{Set, order_in}
 use Rattle.bits.specs.Bit.{bit}
-use Rattle.rows.proofs.Loops.{United, empty, joins, united}
+use Rattle.rows.proofs.Loops.{empty, joins, united}
 use Rattle.rows.proofs.SetLaws.{paired-set}
 use Rattle.rows.proofs.paired.Goals as goal
 

@@ -1,15 +1,10 @@
 -- `rows::paired` meets its contract. Assumes nothing.
-use Prim.Native.Nat.{ℕ, ◌-◌}
-use borrow.Author.Rules.{rules}
-use native.Mathlib.Omega.{arith}
-use mathlib.Core.Path.{subst}
+use Prim.Native.Nat.{◌-◌}
 use mathlib.Core.Bool.{◌&&◌, ◌||◌}
 use lib.Dec.{eqb, ltb}
 use Rattle.finite.specs.Tests.{some}
-use Rattle.rows.specs.Sets.{Set, order_in}
-use Rattle.bits.specs.Bit.{bit}
-use Rattle.rows.proofs.Loops.{United, empty, joins, united}
-use Rattle.rows.proofs.SetLaws.{paired-set}
+use Rattle.rows.specs.Sets.{order_in}
+use Rattle.rows.proofs.Loops.{United}
 use Rattle.rows.proofs.paired.Given as goal
 
 abbrev pub invariant-loop-a : goal.invariant-loop-a

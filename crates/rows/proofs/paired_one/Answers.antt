@@ -1,5 +1,4 @@
 -- `rows::paired_one` meets its contract. Assumes nothing.
-use borrow.Author.Rules.{rules}
 use Rattle.rows.proofs.SetLaws.{masked, paired_with, paired_none}
 use mathlib.Core.Path.{sym, ◌∙◌}
 use Rattle.rows.proofs.paired_one.Goals as goal

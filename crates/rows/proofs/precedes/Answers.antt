@@ -1,6 +1,5 @@
 -- `rows::precedes` meets its contract. Assumes nothing.
 use Prim.Native.Nat.{ℕ}
-use borrow.Author.Rules.{rules}
 use mathlib.Core.Path.{ap, ◌∙◌}
 use Rattle.bits.specs.Bit.{bit}
 use Rattle.rows.proofs.precedes.Goals as goal

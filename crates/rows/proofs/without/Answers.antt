@@ -1,5 +1,4 @@
 -- `rows::without` meets its contract. Assumes nothing.
-use borrow.Author.Rules.{rules}
 use Rattle.rows.proofs.SetLaws.{taken_out}
 use Rattle.rows.proofs.without.Goals as goal
 
