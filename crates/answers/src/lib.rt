@@ -1,4 +1,6 @@
 // The answers that callers get, and what they hold of a case without fault.
+#![tactic(auto)]
+
 ghost use Rattle.std.specs.Prelude.{◌≡◌};
 ghost use Rattle.model.specs.Rules.{verdict as verdict_of};
 ghost use Rattle.model.specs.Written.{record_of};

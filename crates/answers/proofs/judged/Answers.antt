@@ -2,7 +2,6 @@
 use Prim.Native.Nat.{ℕ}
 use mathlib.Core.Path.{sym, ap, ◌∙◌}
 use mathlib.Core.List.{List}
-use borrow.Author.Rules.{rules}
 use Rattle.model.specs.Answers.{judgement}
 use Rattle.case.specs.Held.{case_of}
 use Rattle.answers.specs.Shown.{shown}

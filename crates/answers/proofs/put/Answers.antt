@@ -1,6 +1,5 @@
 -- `answers::put` meets its contract. Assumes nothing.
 use mathlib.Core.Path.{ap}
-use borrow.Author.Rules.{rules}
 use Rattle.model.specs.Answers.{Stored}
 use Rattle.writer.specs.Stored.{stored_of}
 use Rattle.answers.specs.Shown.{shown}

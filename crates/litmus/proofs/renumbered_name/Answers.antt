@@ -8,8 +8,7 @@ use borrow.Author.Tests.{eqb-true, eqb-false}
 use lib.Dec.{eqb}
 use lib.ListN.{replicate}
 use Rattle.model.specs.Answers.{name, name_under, renumber_record, renumbered_name}
-use Rattle.litmus.proofs.renumbered_name.Statement.{statement}
-use Rattle.litmus.proofs.renumbered_name.Tie as tie
+use Rattle.litmus.proofs.renumbered_name.Goals as goal
 
 module _ (q r : ℕ) (s : List ℕ) (size at : ℕ) where
   abbrev number : ℕ
@@ -27,14 +26,10 @@ module _ (q r : ℕ) (s : List ℕ) (size at : ℕ) where
       by zero z = absurd (z refl)
       by (suc x) z = refl
 
-pub renumbered-name-spec : {M : Type 1} → statement M
-renumbered-name-spec =
-    tie.close
-    (tie.spec
-    (λ c κs. search rules)
-    (λ c κs. search rules)
-    (λ c. c.name.ensures ∙ sym (done-name _ _ _ _ _ (sym c.before.before.renumbers.ensures ∙ c.before.if1.true)))
-    (λ c. search rules)
-    (λ c. search rules)
-    (λ c. search rules)
-    (λ c. sym (no_name _ _ _ _ _ (sym c.before.before.renumbers.ensures ∙ c.before.if1.false))))
+pub returns-then-renumbers : goal.returns-then-renumbers
+returns-then-renumbers c =
+    c.name.ensures ∙ sym (done-name _ _ _ _ _ (sym c.renumbers.ensures ∙ c.if-renumbers.true))
+
+pub returns : goal.returns
+returns c =
+    sym (no_name _ _ _ _ _ (sym c.renumbers.ensures ∙ c.if-renumbers.false))
