@@ -1,4 +1,6 @@
 // Judging litmus cases for the POWER memory model PPC-Core: what users call. Every function takes any bytes and any numbers.
+#![tactic(auto)]
+
 ghost use Rattle.std.specs.Prelude.{◌≡◌, true, eqb, replicate};
 ghost use Rattle.permutation.specs.Permutation.{composite as composite_of, inverse as inverse_of, fits as fits_of};
 ghost use Rattle.model.specs.Rules.{or_else};

@@ -1,10 +1,9 @@
 -- `litmus::condition` meets its contract. Assumes nothing.
 use mathlib.Core.Path.{sym, ap, ◌∙◌}
-use borrow.Author.Rules.{rules}
 use Rattle.condition_model.specs.Answers.{condition}
 use Rattle.condition.specs.Shown.{condition_shown}
 use Rattle.reader.proofs.Bytes.{slice_bytes}
-use Rattle.reader.proofs.Found.{Found, found, missed, case-sound}
+use Rattle.reader.proofs.Found.{found, missed, case-sound}
 use Rattle.litmus.proofs.Given.{condition_done, condition_missed}
 use Rattle.litmus.proofs.Models.{no_model}
 use Rattle.litmus.proofs.condition.Goals as goal

@@ -1,6 +1,5 @@
 -- `litmus::condition_case` meets its contract. Assumes nothing.
 use mathlib.Core.Path.{sym, ap, ◌∙◌}
-use borrow.Author.Rules.{rules}
 use Rattle.condition_model.specs.Answers.{condition_case}
 use Rattle.case.proofs.Bounds.{sound}
 use Rattle.condition.specs.Shown.{condition_shown}

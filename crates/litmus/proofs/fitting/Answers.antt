@@ -1,6 +1,5 @@
 -- `litmus::fitting` meets its contract. Assumes nothing.
 use mathlib.Core.Path.{sym, ◌∙◌}
-use borrow.Author.Rules.{rules}
 use Rattle.model.specs.Renumber.{fitting}
 use Rattle.case.specs.Held.{case_of}
 use Rattle.litmus.proofs.fitting.Goals as goal

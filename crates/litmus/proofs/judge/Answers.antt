@@ -1,10 +1,9 @@
 -- `litmus::judge` meets its contract. Assumes nothing.
 use mathlib.Core.Path.{sym, ap, ◌∙◌}
-use borrow.Author.Rules.{rules}
 use Rattle.model.specs.Answers.{judge}
 use Rattle.answers.specs.Shown.{shown}
 use Rattle.reader.proofs.Bytes.{slice_bytes}
-use Rattle.reader.proofs.Found.{Found, found, missed, case-sound}
+use Rattle.reader.proofs.Found.{found, missed, case-sound}
 use Rattle.litmus.proofs.Given.{judge_done, judge_missed}
 use Rattle.litmus.proofs.Models.{no_model}
 use Rattle.litmus.proofs.judge.Goals as goal

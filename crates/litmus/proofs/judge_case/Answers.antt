@@ -1,6 +1,5 @@
 -- `litmus::judge_case` meets its contract. Assumes nothing.
 use mathlib.Core.Path.{sym, ap, ◌∙◌}
-use borrow.Author.Rules.{rules}
 use Rattle.model.specs.Answers.{judge_case}
 use Rattle.case.proofs.Bounds.{sound}
 use Rattle.answers.specs.Shown.{shown}

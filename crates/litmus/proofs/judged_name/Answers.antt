@@ -1,6 +1,5 @@
 -- `litmus::judged_name` meets its contract. Assumes nothing.
 use mathlib.Core.Path.{refl, sym, ◌∙◌}
-use borrow.Author.Rules.{rules}
 use Rattle.model.specs.Answers.{judged_name}
 use Rattle.litmus.proofs.Models.{no_model, either_model}
 use Rattle.litmus.proofs.judged_name.Goals as goal

@@ -1,5 +1,4 @@
 -- `litmus::litmus_judged_name` meets its contract. Assumes nothing.
-use borrow.Author.Rules.{rules}
 use Rattle.litmus.proofs.NameParts.{judged-none, judged-part, judged_both}
 use Rattle.litmus.proofs.litmus_judged_name.Goals as goal
 

@@ -1,6 +1,5 @@
 -- `litmus::litmus_name` meets its contract. Assumes nothing.
 use mathlib.Core.Path.{ap}
-use borrow.Author.Rules.{rules}
 use Rattle.reader.specs.declared.NamePart.{NamePart}
 use Rattle.litmus.proofs.litmus_name.Goals as goal
 

@@ -1,6 +1,5 @@
 -- `litmus::litmus_read` meets its contract. Assumes nothing.
 use mathlib.Core.Path.{ap}
-use borrow.Author.Rules.{rules}
 use Rattle.litmus.specs.declared.CaseAnswer.{CaseAnswer}
 use Rattle.litmus.specs.Shown.{case_shown}
 use Rattle.litmus.proofs.litmus_read.Goals as goal

@@ -1,6 +1,5 @@
 -- `litmus::litmus_renumbered_name` meets its contract. Assumes nothing.
 use mathlib.Core.Path.{sym, ◌∙◌}
-use borrow.Author.Rules.{rules}
 use Rattle.litmus.proofs.NameParts.{renumbered-none, renumbered-part, renumbered_both}
 use Rattle.litmus.proofs.litmus_renumbered_name.Goals as goal
 

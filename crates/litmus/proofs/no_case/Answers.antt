@@ -1,5 +1,4 @@
 -- `litmus::no_case` meets its contract. Assumes nothing.
-use borrow.Author.Rules.{rules}
 use Rattle.litmus.specs.Shown.{case_shown}
 use Rattle.litmus.proofs.no_case.Goals as goal
 

@@ -1,5 +1,4 @@
 -- `litmus::read` meets its contract. Assumes nothing.
-use borrow.Author.Rules.{rules}
 use Rattle.litmus.proofs.Given.{read_shown}
 use Rattle.litmus.proofs.read.Goals as goal
 

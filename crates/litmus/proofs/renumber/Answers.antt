@@ -1,10 +1,9 @@
 -- `litmus::renumber` meets its contract. Assumes nothing.
 use mathlib.Core.Path.{sym, ap, ◌∙◌}
-use borrow.Author.Rules.{rules}
 use Rattle.model.specs.Answers.{Stored}
 use Rattle.reader.proofs.Bytes.{slice_bytes}
 use Rattle.answers.specs.Shown.{shown}
-use Rattle.reader.proofs.Found.{Found, found, missed, case-sound}
+use Rattle.reader.proofs.Found.{found, missed, case-sound}
 use Rattle.litmus.proofs.Given.{relabelled_sound, renumber_done, renumber_misfit, renumber_missed}
 use Rattle.litmus.proofs.renumber.Goals as goal
 

@@ -1,6 +1,5 @@
 -- `litmus::renumber_case` meets its contract. Assumes nothing.
 use mathlib.Core.Path.{sym, ◌∙◌}
-use borrow.Author.Rules.{rules}
 use Rattle.case.proofs.Bounds.{sound}
 use Rattle.case.proofs.Shape.{fits-case}
 use Rattle.litmus.proofs.Given.{renumbered-sound, case_done, case_misfit, case_faulty}

@@ -1,11 +1,10 @@
 -- `litmus::renumbers` meets its contract. Assumes nothing.
 use mathlib.Core.Path.{sym, ap, ◌∙◌}
-use borrow.Author.Rules.{rules}
 use borrow.Author.Tests.{ne_eqb}
 use lib.Dec.{eqb}
 use Rattle.model.specs.Answers.{Stored}
 use Rattle.reader.proofs.Bytes.{slice_bytes}
-use Rattle.reader.proofs.Found.{Found, found, missed}
+use Rattle.reader.proofs.Found.{found, missed}
 use Rattle.litmus.proofs.Given.{renumber-room, renumber_misfit, renumber_missed}
 use Rattle.litmus.proofs.renumbers.Goals as goal
 

@@ -1,6 +1,5 @@
 -- `litmus::representative_case` meets its contract. Assumes nothing.
 use mathlib.Core.Path.{sym, ◌∙◌}
-use borrow.Author.Rules.{rules}
 use Rattle.least.proofs.Represented.{represented-sound}
 use Rattle.litmus.proofs.Represented.{represented_done, represented_faulty}
 use Rattle.litmus.proofs.representative_case.Goals as goal

@@ -1,5 +1,4 @@
 -- `litmus::rule11` meets its contract. Assumes nothing.
-use borrow.Author.Rules.{rules}
 use Rattle.litmus.proofs.OrderAnswers.{few-threads, few-events, many_is, few_is}
 use Rattle.litmus.proofs.rule11.Goals as goal
 

@@ -1,5 +1,4 @@
 -- `litmus::rule11_tests_agree` meets its contract. Assumes nothing.
-use borrow.Author.Rules.{rules}
 use borrow.Author.Tests.{eq-eqb}
 use mathlib.Core.Path.{sym, ◌∙◌}
 use Rattle.litmus.proofs.rule11_tests_agree.Goals as goal

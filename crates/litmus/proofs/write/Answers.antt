@@ -1,6 +1,5 @@
 -- `litmus::write` meets its contract. Assumes nothing.
 use mathlib.Core.Path.{sym, ap, ◌∙◌}
-use borrow.Author.Rules.{rules}
 use Rattle.model.specs.Answers.{Stored}
 use Rattle.case.proofs.Bounds.{sound}
 use Rattle.answers.specs.Shown.{shown}
