@@ -20,7 +20,7 @@ frame_shown place (none e) = record { number = e.number; ended = true; place = e
 abbrev pub end_shown : Found → End
 end_shown f = record { number = f.ending.number; place = f.ending.place; end = f.end }
 
--- the number that `appendAt` answers for a record of so many bytes
+-- the number that `append_at` answers for a record of so many bytes
 abbrev pub refusal_at : (end size : ℕ) → List ℕ → ℕ
 refusal_at end size area = cond (leb (end + 1 + size) (length area)) (cond (every is_unused (drop end area)) 0 8) 6
 

@@ -17,7 +17,7 @@ abbrev pub change : Change → List ℕ → Stored
 change (appends bytes allowed) area = append area bytes allowed
 change (repairs allowed) area = repair area allowed
 
--- the new record if its flag was stored, otherwise none. The flag is the last of the stores (`flag-last`), one more than the record has bytes
+-- the new record if its flag was stored, otherwise none. The flag is the last of the stores (`flag_last`), one more than the record has bytes
 abbrev pub flagged : (bytes : List ℕ) → Answer → Out Case → List (List ℕ)
 flagged bytes a (stop x p) = []
 flagged bytes a (next c i) = cond (eqb a.number 0 && eqb a.length (i + 1)) (take i bytes ∷ []) []

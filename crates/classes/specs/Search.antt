@@ -1,4 +1,4 @@
--- How the representative is found: by the best permutation of threads alone, and the best one of addresses alone (theorem `best-two`).
+-- How the representative is found: by the best permutation of threads alone, and the best one of addresses alone (theorem `best_two`).
 -- Assumes nothing.
 use Rattle.std.specs.Prelude.{ℕ, ◌<◌, ◌≡◌, Bool, true, List}
 use Rattle.permutation.specs.Permutation.{permutations, fits}

@@ -1,4 +1,4 @@
--- Worked texts, of a case with two addresses, whose finals are 1 and 2, and two loads, 2 of 0 and 10 of 4,294,967,295. Theorem `worked-texts`.
+-- Worked texts, of a case with two addresses, whose finals are 1 and 2, and two loads, 2 of 0 and 10 of 4,294,967,295. Theorem `worked_texts`.
 -- Assumes nothing.
 use Rattle.std.specs.Prelude.{ℕ, zero, suc, ◌+◌, Bool, true, false, ◌&&◌, ◌||◌, List, [], ◌∷◌, eqb, ltb, leb}
 use Prim.Native.Char.{code}

@@ -24,7 +24,7 @@ counted l =
     cond (leb (length l.verdicts) most_count) (record { tally = tally_of l.verdicts; ending = l.ending })
     (record { tally = tally_of (take most_count l.verdicts); ending = count_full })
 
--- the most numbers that the reader of a record takes, whether they are bytes or not (of bytes it is one less, `mostBytes`)
+-- the most numbers that the reader of a record takes, whether they are bytes or not (of bytes it is one less, `most_bytes`)
 abbrev pub most_taken : ℕ
 most_taken = most_bytes most_edition + 1
 

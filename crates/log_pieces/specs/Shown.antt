@@ -77,7 +77,7 @@ pub record GoesOn (s : List ℕ) (last : Bool) (f : Step) (y : Bool) : Type 0 wh
   pub whole : y ≡ false → last ≡ true → f.going ≡ false
   pub few : y ≡ false → f.going ≡ true → length s - f.judged ≤ most_bytes most_edition
 
--- what is answered of the bytes s of a log is what `judgeLog` gives for their front up to some place; the last bytes of a log are judged
+-- what is answered of the bytes s of a log is what `judge_log` gives for their front up to some place; the last bytes of a log are judged
 -- whole, and else no more are left than a record may have
 pub record PartJudged (from : ℕ) (last : Bool) (s : List ℕ) (t : Tally) (r : JudgedLog) : Type 0 where
   pub upto : ℕ

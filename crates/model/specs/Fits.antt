@@ -1,5 +1,5 @@
 -- Cases that keep the limits of 01, "What a case may hold", and of the layout: those that a record gives (theorem `readable-iff` of
--- `laws`), and those that are handed without fault (`faultless`, `fits-of`).
+-- `laws`), and those that are handed without fault (`faultless`, `fits_of`).
 -- Assumes nothing.
 use Rattle.std.specs.Prelude.{ℕ, ◌≤◌, ◌<◌, ◌^◌, ◌≡◌, Bool, true, false, not, cond, ◌&&◌, List, [], ◌∷◌, ◌++◌, eqb, leb, length}
 use Rattle.finite.specs.Tests.{count}

@@ -18,7 +18,7 @@ module _ (k : ℕ) (before : ℕ → ℕ → Bool) where
     pub cover : (d : ℕ) → d < k → before a d ≡ true → Cover a d
 
   -- what a test of a's row says: where every row of the order passes, the order is irreflexive and transitive
-  -- (`covered-all`, proofs/Covers.antt); where one fails, it is not
+  -- (`covered_all`, proofs/Covers.antt); where one fails, it is not
   pub record Tested (a : ℕ) (r : Bool) : Type 0 where
     pub holds : r ≡ true → Covered a
     pub fails : r ≡ false → closed k before before a ≡ false

@@ -19,7 +19,7 @@ must_read k is_load store_for thread known asked l s =
     && (all k λ x. (store_for l x && not (eqb x s) && asked (thread l) x l) ⇒ known (thread l) x s)
 
 -- of n threads and k events. Each takes what it needs of the events: `of p e`, e is of thread p; `barrier e`; `is_store e`,
--- `isLoad l`; `oneAddress a b`; `depends a b`, b depends on a; `storeFor l s`, s is a store to the address of l;
+-- `is_load l`; `one_address a b`; `depends a b`, b depends on a; `store_for l s`, s is a store to the address of l;
 -- `written a b`, in write order; `applicable f e g`, barrier f orders e before g
 module _ (n k : ℕ) where
   unfoldable pub may11 : (known asked : Relation) → Bool

@@ -9,4 +9,4 @@ invariant-loop-b l = Separates l.c l.initial.out l.out l.b
 abbrev pub decreases-loop-b : goal.decreases-loop-b
 decreases-loop-b l = l.k - l.b
 
--- `room`: the array `before` has `mostWrites` rows
+-- `room`: the array `before` has `most_writes` rows
