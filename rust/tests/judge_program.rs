@@ -160,12 +160,27 @@ fn names_are_printed_as_they_stand() {
 #[test]
 fn paths_are_escaped() {
     let folder = PathBuf::from(env!("CARGO_TARGET_TMPDIR"));
-    let path = folder.join(OsStr::from_bytes(b"\x1b[1m\\\xff"));
+    let path = folder.join(OsStr::from_bytes(b"\x1b[1m\\\xc3\xbf"));
     fs::write(&path, named(b"z")).expect("a file");
     let printed = judge(&[path.as_os_str()], b"");
     assert!(
-        printed.contains("/\\x1b[1m\\\\\\xff\n\nrecord 1: z\n"),
+        printed.contains("/\\x1b[1m\\\\\\xc3\\xbf\n\nrecord 1: z\n"),
         "{printed}"
     );
+    fs::remove_file(path).expect("the file");
+}
+
+// A file is opened by a name that is text: any other name is told on the standard error, and the next file is judged.
+#[test]
+fn paths_are_text() {
+    let folder = PathBuf::from(env!("CARGO_TARGET_TMPDIR"));
+    let odd = folder.join(OsStr::from_bytes(b"odd\xff"));
+    let path = folder.join("behind_odd");
+    fs::write(&odd, named(b"y")).expect("a file");
+    fs::write(&path, named(b"z")).expect("a file");
+    let printed = judge(&[odd.as_os_str(), path.as_os_str()], b"");
+    assert!(!printed.contains("record 1: y"), "{printed}");
+    assert!(printed.contains("record 1: z\n"), "{printed}");
+    fs::remove_file(odd).expect("the file");
     fs::remove_file(path).expect("the file");
 }

@@ -9,11 +9,13 @@ use mathlib.Core.List.{List, [], ◌∷◌, ◌++◌, append_assoc, append-nil}
 use lib.Dec.{leb, ltb}
 use lib.ListN.{length, take, drop, take-append-drop}
 use lib.Seq.{length-take-le, take-take, take-nil, drop-append-le}
-use borrow.Author.Tests.{ltb-false, lt-leb}
+use borrow.Author.Tests.{ltb-false, le-leb, lt-leb}
+use Rattle.finite.proofs.Tests.{or_r}
 use Rattle.finite.proofs.All.{all-front}
 use Rattle.model.specs.Limits.{most_edition}
 use Rattle.model.specs.Bound.{most_bytes}
 use Rattle.reader.proofs.Bytes.{Octets, slice_bytes}
+use Rattle.tally.specs.declared.Tally.{Tally}
 use Rattle.tally.specs.Tally.{zeros}
 use Rattle.log_model.specs.Log.{log_from, Summary, log_tallied, summary}
 use Rattle.log_model.specs.Pieces.{Answer, judge_log, Fed, going, over, following, completed, joined}
@@ -28,6 +30,9 @@ use Rattle.judge_log.specs.declared.input.Progress.{Progress}
 use Rattle.judge_log.specs.Progress.{Room, begun, given_up, after, held_on, is_due, JudgedHeld, AfterRead, unreadable, judging, keeping, Ready, Stepped, Reached, first, next, Finished, summary_of, WholeLog}
 
 -- ---- the call
+
+pub prefix_long : (n : ℕ) (b : List ℕ) → n ≤ length b → n ≡ length (take n b)
+prefix_long n b l = sym (length-take-le n b l)
 
 module _ (have : ℕ) (b : List ℕ) (R : Room (length b)) (l : have ≤ length b) (octets : Octets b) (p : Progress) (P : Placed p.place p.tally) (final : Bool)
     (r : JudgedLog) (J : PartJudged p.place final (take have b) p.tally r) where
@@ -325,16 +330,45 @@ pub reached-first : (b : List ℕ) → Room (length b) → (p : Progress) → p 
 reached-first b R p e = rw e (first b R)
 
 module _ (b : List ℕ) (p : Progress) (N : Reached b p) where
+  pub reached-room : Room (length b)
+  reached-room = (running N).room
+
   pub reached_ready : p.done ≡ false → Ready b p
   reached_ready d = (running N).ready d
 
   pub reached_on : p.done ≡ false → (b' : List ℕ) (r : Progress) → Stepped b p b' r → Reached b' r
   reached_on d b' r S = next N d S
 
+  pub reached_done : Finished p
+  reached_done = record { buffer = b; reached = N }
+
 pub finished : (p : Progress) → Finished p → p.done ≡ true → p.failed ≡ false → WholeLog p
 finished p f d g = (running f.reached).ended d g
 
--- ---- whether bytes are due
+-- ---- what a read comes to
 
-pub due_late : (ended : Bool) (have due most : ℕ) → most ≡ most_bytes most_edition → ended ≡ false → have < due → ltb most have ≡ is_due ended have due
-due_late ended have due most e n l = rw (n, lt-leb due have l, e)
+module _ (ended : Bool) (have due : ℕ) where
+  pub due_end : ended ≡ true → true ≡ is_due ended have due
+  due_end e = rw e
+
+  pub due_now : due ≤ have → true ≡ is_due ended have due
+  due_now l = rw (le-leb due have l) (sym (or_r ended true refl))
+
+  pub due_late : (most : ℕ) → most ≡ most_bytes most_edition → ended ≡ false → have < due → ltb most have ≡ is_due ended have due
+  due_late most e n l = rw (n, lt-leb due have l, e)
+
+module _ (b : List ℕ) (got : Got) (p : Progress) (f : got.failed ≡ false) (y : Bool) (d : y ≡ is_due got.ended got.have p.due) (r : Progress) where
+  pub read_due : JudgedHeld b got.have got.ended p r → y ≡ true → AfterRead b got p r
+  read_due H h = judging f (sym d ∙ h) H
+
+  pub read_held : r ≡ held_on got.have p → y ≡ false → AfterRead b got p r
+  read_held e h = keeping f (sym d ∙ h) e
+
+pub read_failed : (b : List ℕ) (got : Got) (p r : Progress) → r ≡ given_up p → got.failed ≡ true → AfterRead b got p r
+read_failed b got p r e f = unreadable f e
+
+-- ---- the beginning
+
+pub begun_is : (t : Tally) → t ≡ zeros
+    → ◌≡◌ {A = Progress} (record { at = 0; have = 0; place = 0; tally = t; due = 0; done = false; failed = false; number = 0; end = 0 }) begun
+begun_is t e = rw e
