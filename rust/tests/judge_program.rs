@@ -156,7 +156,7 @@ fn names_are_printed_as_they_stand() {
     }
 }
 
-/// A file may be called anything.
+/// A file may be called anything that is text.
 #[test]
 fn paths_are_escaped() {
     let folder = PathBuf::from(env!("CARGO_TARGET_TMPDIR"));
