@@ -29,7 +29,8 @@ use Rattle.model.specs.Fits.{Fits}
 use Rattle.model.proofs.Faultless.{handed_on}
 use Rattle.laws.proofs.ReadBack.{read_back}
 use Rattle.laws.proofs.ExactCase.{readable, record_injective}
-use Rattle.laws.proofs.Composition.{renumber_identity, renumber-composite, renumber-inverse}
+use Rattle.laws.proofs.Composition.{renumber_identity, renumber-composite}
+use Rattle.laws.proofs.Inverse.{renumber-inverse}
 use Rattle.laws.proofs.Refits.{refits, same_length}
 use Rattle.laws.proofs.Renumbered.{verdict_stays, finals_move}
 use Rattle.laws.proofs.Claim.{read_alone, Fitting, judging-gives, judging-case, front}

@@ -1,4 +1,4 @@
--- Renumbering twice is renumbering by the composites; the identity leaves a case, and the inverses bring it back.
+-- Renumbering twice is renumbering by the composites; the identity leaves a case.
 -- Assumes nothing.
 use Prim.Native.Nat.{ℕ, ◌<◌}
 use native.Mathlib.Nat.{zero-add}
@@ -9,7 +9,7 @@ use lib.Dec.{T}
 use lib.ListN.{length, get_or}
 use Rattle.finite.proofs.Lists.{table_get, table_same, as_table}
 use Rattle.permutation.specs.Permutation.{permutations, image, inverse, composite, fits}
-use Rattle.permutation.proofs.Laws.{image_identity, inverse_identity, composite_image, composite-inverse, inverse-composite, fits_below, fits_image, fits-inverse}
+use Rattle.permutation.proofs.Laws.{image_identity, inverse_identity, composite_image, inverse-composite, fits_below, fits_image, fits-inverse}
 use Rattle.model.specs.Case.{Case, Event, bare}
 use Rattle.model.specs.Renumber.{moved, relabel, renumber}
 use Rattle.model.specs.Fits.{Fits}
@@ -107,10 +107,3 @@ renumber-composite q r q' r' c fq fr fq' fr' =
       orders = orders i;
       name = c.name;
     }
-
-pub renumber-inverse :
-    (q r : ℕ) (c : Case) → Fits c → T (fits q c.n) → T (fits r c.m) → renumber (inverse q) (inverse r) (renumber q r c) ≡ c
-renumber-inverse q r c F fq fr =
-    renumber-composite q r (inverse q) (inverse r) c fq fr (fits-inverse q c.n fq) (fits-inverse r c.m fr)
-    ∙ ap₂ (λ (q r : ℕ). renumber q r c) (composite-inverse q (fits_below q c.n fq)) (composite-inverse r (fits_below r c.m fr))
-    ∙ renumber_identity c F

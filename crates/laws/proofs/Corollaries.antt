@@ -20,7 +20,8 @@ use Rattle.model.specs.Answers.{Stored, room, put, put_out, renumber_out, renumb
 use Rattle.model.specs.Fits.{Fits}
 use Rattle.laws.proofs.ReadBack.{read_back}
 use Rattle.laws.proofs.ExactCase.{Readable, readable}
-use Rattle.laws.proofs.Composition.{renumber_identity, renumber-composite, renumber-inverse}
+use Rattle.laws.proofs.Composition.{renumber_identity, renumber-composite}
+use Rattle.laws.proofs.Inverse.{renumber-inverse}
 use Rattle.laws.proofs.Refits.{refits, same_length}
 use Rattle.laws.proofs.Claim.{finish, put-room, written_there, front}
 

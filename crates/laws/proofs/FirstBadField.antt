@@ -28,7 +28,7 @@ use Rattle.model.specs.Answers.{answer_of}
 use Rattle.model.specs.Fits.{Shaped, Numbers, Stated, as_fault}
 use Rattle.model.proofs.Faultless.{passed, between-least, between_most, least_first, least-next, else_first}
 use Rattle.laws.proofs.Names.{reads_bytes}
-use Rattle.laws.proofs.ReadOrder.{reads_all-orders}
+use Rattle.laws.proofs.ReadOrders.{reads_all-orders}
 use Rattle.laws.proofs.Parts.{kinds_most, head_bytes, head_of, listing_bytes, listing_of, rest_bytes, rest_of, parted}
 use Rattle.laws.proofs.Faulty.{Meets, Faulty, Wide, along, Steps, two, three, if_passed, listed, apart, faultless_read, faulty_as, faulty_last, faulty_bind, faulty_then, faulty_unless, faulty_up_to, faulty_within, faulty_below, faulty_under, faulty_turns, faulty_times}
 

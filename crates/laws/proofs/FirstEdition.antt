@@ -243,15 +243,15 @@ unfolding each
 each_map f [] = refl
 each_map f (a ∷ l) = ap (λ (t : List ℕ). f a ++ t) (each_map f l)
 
-module _ (c : Case) (F : Fits c) (one : c.edition ≡ 1) where
+module _ (c : Case) (F : Fits c) (is_one : c.edition ≡ 1) where
   open c use {n, k}
 
   kinds : All (λ e. Kept e.kind) c.events
   unfolding most_kind
-  kinds = all_map _ _ (λ e h. kept e.kind (rw one at h.kind)) c.events F.events
+  kinds = all_map _ _ (λ e h. kept e.kind (rw is_one at h.kind)) c.events F.events
 
   no_dependencies : c.dependencies ≡ []
-  no_dependencies = F.no_dependencies (rw one)
+  no_dependencies = F.no_dependencies (rw is_one)
 
   -- ---- judging
 
@@ -308,10 +308,12 @@ module _ (c : Case) (F : Fits c) (one : c.edition ≡ 1) where
   unfolding rule18
   eighteen = syncs _ _ (λ p f a. simp (a, and-true, sources))
 
+-- the theorems, of a case of edition 1
+module _ (c : Case) (F : Fits c) (one : c.edition ≡ 1) where
   -- the same verdict
   pub judges_as_before : (w : Model) → verdict c w ≡ first_verdict c w
   unfolding verdict
-  judges_as_before w = simp (thirteen, fourteen, fifteen w, sixteen w, seventeen, eighteen)
+  judges_as_before w = simp (thirteen c F one, fourteen c F one, fifteen c F one w, sixteen c F one w, seventeen c F one, eighteen c F one)
 
   -- ---- writing and renumbering
 
@@ -319,12 +321,12 @@ module _ (c : Case) (F : Fits c) (one : c.edition ≡ 1) where
   pub writes_as_before : record_of c ≡ first_record_of c
   unfolding record_of event_bytes dependencies_bytes
   writes_as_before =
-      rw (one, each_map event_bytes, map_same _ event_bytes first_event_bytes (λ e h. rw h) c.events kinds, ← (each_map first_event_bytes))
+      rw (one, each_map event_bytes, map_same _ event_bytes first_event_bytes (λ e h. rw h) c.events (kinds c F one), ← (each_map first_event_bytes))
 
   -- the same renumbered case, which has no dependencies either
   pub renumbers_as_before : (q r : ℕ) → renumber q r c ≡ first_renumber q r c
   unfolding renumber relabel
-  renumbers_as_before q r = rw (map_same _ (relabel q r) (first_relabel q r) (λ e h. rw h) c.events kinds, no_dependencies)
+  renumbers_as_before q r = rw (map_same _ (relabel q r) (first_relabel q r) (λ e h. rw h) c.events (kinds c F one), no_dependencies c F one)
 
 -- ---- a case handed without bytes
 

@@ -1,6 +1,7 @@
 pub mod Names
 pub mod Parts
 pub mod ReadOrder
+pub mod ReadOrders
 pub mod Faulty
 pub mod FirstBadField
 pub mod ReadBack
@@ -18,6 +19,7 @@ pub mod NameBack
 pub mod Renamed
 pub mod Renumbered
 pub mod Composition
+pub mod Inverse
 pub mod Refits
 pub mod Claim
 pub mod Corollaries

@@ -1,7 +1,7 @@
 -- An order's pairs are read back as its rows.
 -- Assumes nothing.
 use Prim.Native.Nat.{ℕ, zero, suc, ◌+◌, ◌*◌, ◌/◌, ◌%◌, ◌^◌, ◌≤◌, ◌<◌}
-use native.Mathlib.Nat.{add-zero, zero-add, add-suc, suc-add, suc-mul, zero-mul, mul-le-mul, mul-le-mul_right, mod-one, mod-lt, mod-eq_of_lt, one-mul}
+use native.Mathlib.Nat.{add-zero, zero-add, add-suc, suc-add, suc-mul, zero-mul, mul-le-mul_right, mod-one, mod-lt, mod-eq_of_lt, one-mul}
 use native.Mathlib.Numerals.{one-add, add-one}
 use native.Mathlib.Omega.{arith}
 use mathlib.Core.Path.{◌≡◌, refl, sym, ap, ◌∙◌, subst}
@@ -13,16 +13,13 @@ use lib.Seq.{set-append_seam, get_or-append_seam}
 use lib.Pow.{mod-pow-add, pow_pos}
 use borrow.Author.Tests.{le-leb, eqb-true, eqb-false}
 use Rattle.finite.specs.Lists.{each, All}
-use Rattle.finite.proofs.All.{all_map}
 use Rattle.number.specs.Number.{groups}
-use Rattle.number.specs.Reader.{give, ◌>>=◌, turns, times}
+use Rattle.number.specs.Reader.{give, ◌>>=◌, turns}
 use Rattle.bits.specs.Bit.{bit}
-use Rattle.codec.proofs.ReadsAs.{ReadsAs, reads_give, reads_bind, reads_last, reads_unless, reads_up_to, reads_below, reads_times}
+use Rattle.codec.proofs.ReadsAs.{ReadsAs, reads_give, reads_bind, reads_last, reads_unless, reads_up_to, reads_below}
 use Rattle.codec.proofs.Exact.{folded}
-use Rattle.model.specs.Limits.{most_events}
 use Rattle.model.specs.Record.{Pair, Rows, pair, rank, rising_pair, with_pair, next_pair, no_pairs, order}
 use Rattle.model.specs.Written.{pair_bytes, row_pairs, rows_pairs, order_bytes}
-use Rattle.model.specs.Fits.{RowsFit}
 
 abbrev pub Rising : (k least : ℕ) → List Pair → Type 0
 Rising k least [] = Unit {0}
@@ -122,8 +119,3 @@ reads_order k rows e h f f' =
     let all : (folded (with_pair k) (no_pairs k) ps).rows ≡ rows = folded_rows k (no_pairs k) ps ∙ rw e at (put-rows k [] rows h) in
     reads_bind _ (reads_up_to (k * k) (length ps) few f)
     (subst (λ (x : List ℕ). ReadsAs (turns (length ps) (next_pair k) (no_pairs k) >>= λ o. give o.rows) (each pair_bytes ps) x) all (reads_last (λ o. o.rows) (reads_pairs k (no_pairs k) ps up f')))
-
-pub reads_all-orders : (k : ℕ) (os : List (List ℕ)) → k ≤ most_events → All (RowsFit k) os → ReadsAs (times (length os) (order k)) (each (order_bytes k) os) os
-reads_all-orders k os few h =
-    let square : k * k ≤ most_events * most_events = mul-le-mul few few in
-    reads_times (order k) (order_bytes k) os (all_map _ _ (λ rows f. reads_order k rows f.0 f.1 (omega arith) (omega arith)) os h)
