@@ -13,8 +13,7 @@ use borrow.Author.Tests.{ltb-true, ltb-false, leb-true}
 use Rattle.finite.specs.Lists.{each, All}
 use Rattle.finite.proofs.All.{all_drop}
 use Rattle.number.specs.Number.{Raw, got, short, wrong, read_groups, finish, read_number, groups, encode, Bytes}
-use Rattle.number.specs.Reader.{Out, stop, next, Reader, give, ◌>>=◌, onward, unless, tested, turns, another, times, up_to, within, below, under, number_out}
-use Rattle.number.specs.declared.NumberRead.TheVariants as the
+use Rattle.number.specs.Reader.{Out, stop, next, Reader, give, ◌>>=◌, onward, unless, tested, turns, another, times, up_to, within, below, under}
 use Rattle.number.proofs.Laws.{Encoded, read_is_encoded}
 use Rattle.number.proofs.Forms.{WrongForm, wrong_form}
 
@@ -131,13 +130,13 @@ exact_up_to {N} told hi = record {
 }
   where
     go : (s : List ℕ) (at : ℕ) → at ≤ length s → (r : Raw) → (r ≡ wrong → WrongForm s at) → ((w j : ℕ) → r ≡ got w j → Encoded 0 (drop at s) w j)
-        → Outcome N (As encode (λ v. v ≤ hi)) s at (number_out (finish at hi r))
+        → Outcome N (As encode (λ v. v ≤ hi)) s at ((finish at hi r))
     go s at l short f g = told s 1 at (other_than_2 1 (lit≤ tt) (lit≤ tt) (λ e. omega arith) l)
     go s at l wrong f g = told s 2 at (record { least = lit≤ tt; most = lit≤ tt; within = l; form = λ e. f refl })
     go s at l (got w j) f g = small (ltb hi w) refl (g w j refl)
       where
         small : (y : Bool) → ltb hi w ≡ y → Encoded 0 (drop at s) w j
-            → Outcome N (As encode (λ v. v ≤ hi)) s at (number_out (cond y (the.Refused 3 at) (the.Number w (at + j))))
+            → Outcome N (As encode (λ v. v ≤ hi)) s at ((cond y (stop 3 at) (next w (at + j))))
         small true k G = told s 3 at (other_than_2 3 (lit≤ tt) (lit≤ tt) (λ e. omega arith) l)
         small false k G = record {
           bs = encode w;

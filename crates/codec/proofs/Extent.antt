@@ -12,8 +12,7 @@ use lib.ListN.{length, take, drop, length-append, length-drop, take-append-drop}
 use lib.Seq.{length-take-le, drop-append-le, take-take, take-add, take_at, drop_at}
 use borrow.Author.Tests.{ltb-false, leb-true, leb-false, le-leb}
 use Rattle.number.specs.Number.{Raw, got, short, wrong, after, read_groups, finish, read_number, groups, size}
-use Rattle.number.specs.Reader.{Out, stop, next, Reader, give, ◌>>=◌, onward, unless, tested, turns, another, times, up_to, within, below, under, number_out}
-use Rattle.number.specs.declared.NumberRead.TheVariants as the
+use Rattle.number.specs.Reader.{Out, stop, next, Reader, give, ◌>>=◌, onward, unless, tested, turns, another, times, up_to, within, below, under}
 use Rattle.number.proofs.Encoding.{encode-long, encode_high}
 use Rattle.number.proofs.Sizes.{size_mono}
 
@@ -213,13 +212,13 @@ groups_look (suc n) least (b ∷ s) l = go (ltb b 128) refl (groups_look n 1 s (
 
 -- from a place on
 number_look : (hi : ℕ) (s : List ℕ) (at : ℕ) → at ≤ length s → (r : Raw) → Groups groups 0 (drop at s) r
-    → Looks (up_to hi) (size hi) (size hi + further) (λ v. v ≤ hi) s at (number_out (finish at hi r))
+    → Looks (up_to hi) (size hi) (size hi + further) (λ v. v ≤ hi) s at ((finish at hi r))
 unfolding up_to read_number finish
 number_look hi s at l short G = record { least = lit≤ tt; end = λ _. omega (arith, simp length-drop at G, encode-long hi); stays = λ n t. absurd (n refl) }
 number_look hi s at l wrong G = record {
   least = lit≤ tt;
   end = λ h. omega arith;
-  stays = λ n t. ap (λ (z : Raw). number_out (finish at hi z)) (ap (read_groups groups 0) (drop-append-le at s t l) ∙ G t);
+  stays = λ n t. ap (λ (z : Raw). (finish at hi z)) (ap (read_groups groups 0) (drop-append-le at s t l) ∙ G t);
 }
 number_look hi s at l (got v k) G = by (ltb hi v) refl
   where
@@ -230,12 +229,12 @@ number_look hi s at l (got v k) G = by (ltb hi v) refl
     read t = ap (read_groups groups 0) (again k at s t l) ∙ G.1.1.1 t
 
     by : (y : Bool) → ltb hi v ≡ y
-        → Looks (up_to hi) (size hi) (size hi + further) (λ v. v ≤ hi) s at (number_out (cond y (the.Refused 3 at) (the.Number v (at + k))))
+        → Looks (up_to hi) (size hi) (size hi + further) (λ v. v ≤ hi) s at ((cond y (stop 3 at) (next v (at + k))))
     by true h = record {
       least = lit≤ tt;
       end = λ z. omega arith;
       stays = λ n t.
-          ap (λ (z : Raw). number_out (finish at hi z))
+          ap (λ (z : Raw). (finish at hi z))
           (ap (λ (z : List ℕ). read_groups groups 0 (drop at z)) (split_all (at + k) s t) ∙ read (drop (at + k) s ++ t))
           ∙ rw h;
     }
@@ -243,7 +242,7 @@ number_look hi s at l (got v k) G = by (ltb hi v) refl
       from = omega arith;
       inside = inside;
       most = omega (arith, G.0, size_mono v hi (ltb-false hi v h));
-      front = λ t. ap (λ (z : Raw). number_out (finish at hi z)) (read t) ∙ rw h;
+      front = λ t. ap (λ (z : Raw). (finish at hi z)) (read t) ∙ rw h;
       fits = ltb-false hi v h;
     }
 

@@ -8,8 +8,7 @@ use mathlib.Core.List.{List, ◌++◌}
 use lib.Dec.{lit≤, ltb}
 use lib.ListN.{length, drop}
 use Rattle.number.specs.Number.{Raw, got, short, wrong, read_groups, finish, read_number, groups, size}
-use Rattle.number.specs.Reader.{Out, stop, next, Reader, give, ◌>>=◌, onward, unless, tested, turns, up_to, within, below, under, number_out}
-use Rattle.number.specs.declared.NumberRead.TheVariants as the
+use Rattle.number.specs.Reader.{Out, stop, next, Reader, give, ◌>>=◌, onward, unless, tested, turns, up_to, within, below, under}
 use Rattle.number.proofs.Forms.{WrongForm, wrong_form}
 use Rattle.codec.proofs.Extent.{Looks, further, split_all, extent_up_to}
 
@@ -61,13 +60,13 @@ abbrev Wrong : List ℕ → Out ℕ → Type 0
 Wrong s (stop x p) = OneToThree s x p
 Wrong s (next v p) = Unit {0}
 
-number-wrong : (s : List ℕ) (at hi : ℕ) → at ≤ length s → (r : Raw) → (r ≡ wrong → WrongForm s at) → Wrong s (number_out (finish at hi r))
+number-wrong : (s : List ℕ) (at hi : ℕ) → at ≤ length s → (r : Raw) → (r ≡ wrong → WrongForm s at) → Wrong s ((finish at hi r))
 unfolding finish
 number-wrong s at hi l short f = (lit≤ tt, lit≤ tt, l, λ e. absurd (omega arith))
 number-wrong s at hi l wrong f = (lit≤ tt, lit≤ tt, l, λ e. f refl)
 number-wrong s at hi l (got w j) f = small (ltb hi w)
   where
-    small : (b : Bool) → Wrong s (number_out (cond b (the.Refused 3 at) (the.Number w (at + j))))
+    small : (b : Bool) → Wrong s ((cond b (stop 3 at) (next w (at + j))))
     small true = (lit≤ tt, lit≤ tt, l, λ e. absurd (omega arith))
     small false = tt
 

@@ -12,7 +12,7 @@ use lib.ListN.{length, drop, length-append, length-drop}
 use borrow.Author.Tests.{le-leb, lt-leb, lt-ltb, le-ltb}
 use Rattle.finite.specs.Lists.{each, every, All}
 use Rattle.number.specs.Number.{groups, encode, read_number}
-use Rattle.number.specs.Reader.{Out, stop, next, Reader, give, ◌>>=◌, onward, unless, tested, turns, another, times, up_to, within, below, under, number_out}
+use Rattle.number.specs.Reader.{Out, stop, next, Reader, give, ◌>>=◌, onward, unless, tested, turns, another, times, up_to, within, below, under}
 use Rattle.number.proofs.Laws.{read_at, read_above, read_wide, past}
 use Rattle.number.proofs.Encoding.{lt_or_ge}
 use Rattle.codec.proofs.ReadsAs.{ReadsAs, reads_give}
@@ -137,12 +137,12 @@ module _ {W : Type 0} where
   faulty_up_to hi v f w = record { run = λ s at t l h. go s at t h (lt_or_ge hi v) }
     where
       above : (s : List ℕ) (at : ℕ) (t : List ℕ) → drop at s ≡ encode v ++ t → hi < v → (v < 128 ^ groups) ⊎ (128 ^ groups ≤ v)
-          → Meets W v (at + length (encode v)) (or_else (leb v hi) 3 0) (number_out (read_number s at hi))
+          → Meets W v (at + length (encode v)) (or_else (leb v hi) 3 0) ((read_number s at hi))
       above s at t h l (inl small) = rw (lt-leb v hi l, read_above s t at hi v small l h) (inl (refl, lit≤ tt))
       above s at t h l (inr big) = rw (lt-leb v hi l, read_wide s t at hi v big h) (inr (refl, refl, w big))
 
       go : (s : List ℕ) (at : ℕ) (t : List ℕ) → drop at s ≡ encode v ++ t → (hi < v) ⊎ (v ≤ hi)
-          → Meets W v (at + length (encode v)) (or_else (leb v hi) 3 0) (number_out (read_number s at hi))
+          → Meets W v (at + length (encode v)) (or_else (leb v hi) 3 0) ((read_number s at hi))
       go s at t h (inl l) = above s at t h l (lt_or_ge v (128 ^ groups))
       go s at t h (inr l) = rw (le-leb v hi l, read_at s t at hi v (omega arith) l h)
 

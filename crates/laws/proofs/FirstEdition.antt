@@ -17,8 +17,7 @@ use Rattle.finite.proofs.Tests.{and_left, or_false, and-true, T_true, all_same, 
 use Rattle.finite.proofs.All.{all_map}
 use Rattle.permutation.specs.Permutation.{image}
 use Rattle.number.specs.Number.{Raw, got, short, wrong, groups, read_groups, finish, read_number, encode}
-use Rattle.number.specs.Reader.{Out, stop, next, Reader, give, ◌>>=◌, onward, unless, times, up_to, within, below, number_out}
-use Rattle.number.specs.declared.NumberRead.TheVariants as the
+use Rattle.number.specs.Reader.{Out, stop, next, Reader, give, ◌>>=◌, onward, unless, times, up_to, within, below}
 use Rattle.model.specs.Limits.{between, least_edition, most_edition, second, most_threads, most_addresses, most_events, most_value}
 use Rattle.model.specs.Case.{Case, Event, no_event, sync, lwsync, most_kind, bare}
 use Rattle.model.specs.Rules.{Model, or_else, among, kind, thread, address, value, initial, is_load, is_store, is_sync, is_barrier, of, one_address, depends, applicable, store_for, before, everywhere, written, seen, reads_from, judged}
@@ -360,13 +359,13 @@ up_to_same :
 unfolding up_to read_number finish
 up_to_same hi s at f g e = by (read_groups groups 0 (drop at s))
   where
-    by : (r : Raw) → onward f (number_out (finish at hi r)) ≡ onward g (number_out (finish at hi r))
+    by : (r : Raw) → onward f ((finish at hi r)) ≡ onward g ((finish at hi r))
     by short = refl
     by wrong = refl
     by (got v i) = small (ltb hi v) refl
       where
         kept_to : Bool → Out ℕ
-        kept_to y = number_out (cond y (the.Refused 3 at) (the.Number v (at + i)))
+        kept_to y = (cond y (stop 3 at) (next v (at + i)))
 
         small : (y : Bool) → ltb hi v ≡ y → onward f (kept_to y) ≡ onward g (kept_to y)
         small true h = refl

@@ -12,7 +12,7 @@ use lib.ListN.{length, get_or, drop, get_or-eq_default}
 use lib.Dec.{ltb}
 use borrow.Author.Tests.{lt-ltb, le-ltb, ltb-true}
 use Rattle.number.specs.Number.{Raw, got, short, wrong, after, read_groups, finish, read_number, groups}
-use Rattle.number.specs.declared.NumberRead.TheVariants.{Number, Refused}
+use Rattle.number.specs.Number.{stop, next}
 use Rattle.number.proofs.Encoding.{lt_or_ge}
 use Rattle.number.proofs.Groups.{read_end, read_wrong, read_last, read_more}
 
@@ -39,9 +39,9 @@ pub record ZeroLast (n : ℕ) (s : List ℕ) (at : ℕ) : Type 0 where
 -- 01: "number outside its range", which is up to a limit: with a greater limit it is read, as v
 pub record Outside (s : List ℕ) (at limit : ℕ) : Type 0 where
   pub v : ℕ
-  pub next : ℕ
+  pub behind : ℕ
   pub above : limit < v
-  pub reads : read_number s at v ≡ Number v next
+  pub reads : read_number s at v ≡ next v behind
 
 -- the number ends with group i, of which Good is said
 record Last (n : ℕ) (s : List ℕ) (at : ℕ) (Good : ℕ → ℕ → Type 0) : Type 0 where
@@ -206,52 +206,52 @@ module _ (n : ℕ) (s : List ℕ) (at : ℕ) where
 -- the groups that a refusal tells of
 module _ (at limit : ℕ) where
   -- read whole, a number is refused with 3 or not at all
-  whole : (v k x : ℕ) → x < 3 → finish at limit (got v k) ≡ Refused x at → ⊥
+  whole : (v k x : ℕ) → x < 3 → finish at limit (got v k) ≡ stop x at → ⊥
   unfolding finish
   whole v k x l e = go (ltb limit v) e
     where
-      go : (t : Bool) → cond t (Refused 3 at) (Number v (at + k)) ≡ Refused x at → ⊥
+      go : (t : Bool) → cond t (stop 3 at) (next v (at + k)) ≡ stop x at → ⊥
       go true q = let z : 3 ≡ x = cc in omega arith
       go false q = let z : ◌≡◌ {A = ℕ} 0 1 = cc in omega arith
 
-  unfinished : (r : Raw) → finish at limit r ≡ Refused 1 at → r ≡ short
+  unfinished : (r : Raw) → finish at limit r ≡ stop 1 at → r ≡ short
   unfolding finish
   unfinished (got v k) e = absurd (whole v k 1 (omega arith) e)
   unfinished short e = refl
   unfinished wrong e = let z : ◌≡◌ {A = ℕ} 2 1 = cc in absurd (omega arith)
 
-  ill_formed : (r : Raw) → finish at limit r ≡ Refused 2 at → r ≡ wrong
+  ill_formed : (r : Raw) → finish at limit r ≡ stop 2 at → r ≡ wrong
   unfolding finish
   ill_formed (got v k) e = absurd (whole v k 2 (omega arith) e)
   ill_formed short e = let z : ◌≡◌ {A = ℕ} 1 2 = cc in absurd (omega arith)
   ill_formed wrong e = refl
 
   -- with a limit that is v itself, what is read is v
-  up_to_itself : (v k : ℕ) → finish at v (got v k) ≡ Number v (at + k)
+  up_to_itself : (v k : ℕ) → finish at v (got v k) ≡ next v (at + k)
   unfolding finish
   up_to_itself v k = rw (le-ltb v v (le_refl v))
 
-  outside : (s : List ℕ) (r : Raw) → read_groups groups 0 (drop at s) ≡ r → finish at limit r ≡ Refused 3 at → Outside s at limit
+  outside : (s : List ℕ) (r : Raw) → read_groups groups 0 (drop at s) ≡ r → finish at limit r ≡ stop 3 at → Outside s at limit
   unfolding read_number finish
   outside s (got v k) p e = go (ltb limit v) refl e
     where
-      go : (t : Bool) → ltb limit v ≡ t → cond t (Refused 3 at) (Number v (at + k)) ≡ Refused 3 at → Outside s at limit
-      go true l q = record { v = v; next = at + k; above = ltb-true limit v l; reads = ap (finish at v) p ∙ up_to_itself v k }
+      go : (t : Bool) → ltb limit v ≡ t → cond t (stop 3 at) (next v (at + k)) ≡ stop 3 at → Outside s at limit
+      go true l q = record { v = v; behind = at + k; above = ltb-true limit v l; reads = ap (finish at v) p ∙ up_to_itself v k }
       go false l q = let z : ◌≡◌ {A = ℕ} 0 1 = cc in absurd (omega arith)
   outside s short p e = let z : ◌≡◌ {A = ℕ} 1 3 = cc in absurd (omega arith)
   outside s wrong p e = let z : ◌≡◌ {A = ℕ} 2 3 = cc in absurd (omega arith)
 
-  above_limit : (v next : ℕ) (r : Raw) → limit < v → finish at v r ≡ Number v next → finish at limit r ≡ Refused 3 at
+  above_limit : (v behind : ℕ) (r : Raw) → limit < v → finish at v r ≡ next v behind → finish at limit r ≡ stop 3 at
   unfolding finish
-  above_limit v next (got w k) l e = go (ltb v w) e
+  above_limit v behind (got w k) l e = go (ltb v w) e
     where
-      go : (t : Bool) → cond t (Refused 3 at) (Number w (at + k)) ≡ Number v next → cond (ltb limit w) (Refused 3 at) (Number w (at + k)) ≡ Refused 3 at
+      go : (t : Bool) → cond t (stop 3 at) (next w (at + k)) ≡ next v behind → cond (ltb limit w) (stop 3 at) (next w (at + k)) ≡ stop 3 at
       go true q = let z : ◌≡◌ {A = ℕ} 0 1 = cc in absurd (omega arith)
       go false q =
           let same : w ≡ v = cc in
           rw (lt-ltb limit w (omega arith))
-  above_limit v next short l e = let z : ◌≡◌ {A = ℕ} 0 1 = cc in absurd (omega arith)
-  above_limit v next wrong l e = let z : ◌≡◌ {A = ℕ} 0 1 = cc in absurd (omega arith)
+  above_limit v behind short l e = let z : ◌≡◌ {A = ℕ} 0 1 = cc in absurd (omega arith)
+  above_limit v behind wrong l e = let z : ◌≡◌ {A = ℕ} 0 1 = cc in absurd (omega arith)
 
 -- 01's 2 with 02 (xii)'s groups: the last group that there may be says that more follows, "or the last of several groups is zero"
 abbrev pub WrongForm : (s : List ℕ) (at : ℕ) → Type 0
@@ -268,7 +268,7 @@ module _ (s : List ℕ) (at limit : ℕ) where
   are = found groups 0 s at
 
   -- 01's 1: "bytes end inside a number"
-  pub refused_1 : (read_number s at limit ≡ Refused 1 at) ↔ EndsInside groups s at
+  pub refused_1 : (read_number s at limit ≡ stop 1 at) ↔ EndsInside groups s at
   unfolding read_number finish
   refused_1 = (
     λ e. subst (Found groups 0 s at) (unfinished at limit raw e) are,
@@ -276,11 +276,11 @@ module _ (s : List ℕ) (at limit : ℕ) where
   )
 
   -- 01's 2
-  pub refused_2 : (read_number s at limit ≡ Refused 2 at) ↔ WrongForm s at
+  pub refused_2 : (read_number s at limit ≡ stop 2 at) ↔ WrongForm s at
   unfolding read_number finish
   refused_2 = (λ e. wrong_form s at (ill_formed at limit raw e), λ h. ap (finish at limit) (wrong_when groups s at raw are h))
 
   -- 01's 3 at a limit
-  pub refused_3 : (read_number s at limit ≡ Refused 3 at) ↔ Outside s at limit
+  pub refused_3 : (read_number s at limit ≡ stop 3 at) ↔ Outside s at limit
   unfolding read_number
-  refused_3 = (outside at limit s raw refl, λ o. above_limit at limit o.v o.next raw o.above o.reads)
+  refused_3 = (outside at limit s raw refl, λ o. above_limit at limit o.v o.behind raw o.above o.reads)

@@ -11,7 +11,7 @@ use lib.Seq.{drop-cons}
 use lib.Dec.{ltb}
 use borrow.Author.Tests.{lt-ltb, le-ltb}
 use Rattle.number.specs.Number.{Raw, got, short, wrong, after, read_groups, finish, read_number, groups}
-use Rattle.number.specs.declared.NumberRead.TheVariants.{Number, Refused}
+use Rattle.number.specs.Number.{stop, next}
 
 pub after-after : (low scale k c : ℕ) (r : Raw)
     → after low scale k (after c 128 1 r) ≡ after (low + c * scale) (scale * 128) (k + 1) r
@@ -109,29 +109,29 @@ module _ (s : List ℕ) (at limit place left least value scale : ℕ) (h : Readi
   unfolding read_number
   answer r e = ap (finish at limit) (ap (after value scale (place - at)) (sym e) ∙ h.same)
 
-  pub none_left : left ≤ 0 → Refused 2 at ≡ read_number s at limit
+  pub none_left : left ≤ 0 → stop 2 at ≡ read_number s at limit
   unfolding finish after
   none_left p = answer wrong (read_none least s place left p)
 
   module _ (p : 0 < left) where
-    pub ends : length s ≤ place → Refused 1 at ≡ read_number s at limit
+    pub ends : length s ≤ place → stop 1 at ≡ read_number s at limit
     unfolding finish after
     ends e = answer short (read_end least s place left p e)
 
     -- with the byte b at the place
     module _ (b : ℕ) (eb : b ≡ get_or s place 0) (inside : place < length s) where
-      pub wrong-last : b < 128 → b < least → Refused 2 at ≡ read_number s at limit
+      pub wrong-last : b < 128 → b < least → stop 2 at ≡ read_number s at limit
       unfolding finish after
       wrong-last u l = answer wrong (read_wrong least s place inside left p (rw eb at u) (rw eb at l))
 
-      last : b < 128 → least ≤ b → cond (ltb limit (value + b * scale)) (Refused 3 at) (Number (value + b * scale) (at + (place - at + 1))) ≡ read_number s at limit
+      last : b < 128 → least ≤ b → cond (ltb limit (value + b * scale)) (stop 3 at) (next (value + b * scale) (at + (place - at + 1))) ≡ read_number s at limit
       unfolding finish after
       last u l = answer (got b 1) (read_last least s place inside left p (rw eb at u) (rw eb at l) ∙ ap (λ (x : ℕ). got x 1) (sym eb))
 
-      pub too_large : b < 128 → least ≤ b → limit < value + b * scale → Refused 3 at ≡ read_number s at limit
+      pub too_large : b < 128 → least ≤ b → limit < value + b * scale → stop 3 at ≡ read_number s at limit
       too_large u l g = rw (lt-ltb _ _ g) at (last u l)
 
-      pub number : b < 128 → least ≤ b → value + b * scale ≤ limit → Number (value + b * scale) (place + 1) ≡ read_number s at limit
+      pub number : b < 128 → least ≤ b → value + b * scale ≤ limit → next (value + b * scale) (place + 1) ≡ read_number s at limit
       number u l g =
           let e : at + (place - at + 1) ≡ place + 1 = omega arith in
           rw (le-ltb _ _ g, e) at (last u l)

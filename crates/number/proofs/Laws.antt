@@ -12,7 +12,7 @@ use lib.Dec.{ltb}
 use borrow.Author.Tests.{lt-ltb, le-ltb, ltb-false}
 use Rattle.finite.proofs.All.{all_drop}
 use Rattle.number.specs.Number.{Raw, got, short, wrong, after, read_groups, finish, read_number, groups, encode, Bytes}
-use Rattle.number.specs.declared.NumberRead.TheVariants.{Number, Refused}
+use Rattle.number.specs.Number.{stop, next}
 use Rattle.number.proofs.Encoding.{encode_low, encode_high, lt_or_ge}
 
 low : (n v least : ℕ) (t : List ℕ) → v < 128 → least ≤ v → read_groups (suc n) least (encode v ++ t) ≡ got v (length (encode v))
@@ -42,7 +42,7 @@ read_back (suc n) v least t f l =
 
 -- what is written, anywhere, is read back
 pub written_is_read : (before rest : List ℕ) (v limit : ℕ) → v < 128 ^ groups → v ≤ limit
-    → read_number (before ++ (encode v ++ rest)) (length before) limit ≡ Number v (length before + length (encode v))
+    → read_number (before ++ (encode v ++ rest)) (length before) limit ≡ next v (length before + length (encode v))
 unfolding read_number finish
 written_is_read before rest v limit f l =
     rw (drop-append_seam before (encode v ++ rest), read_back (groups - 1) v 0 rest f (omega arith), le-ltb limit v l)
@@ -104,21 +104,21 @@ read_is_encoded (suc n) least (b ∷ s) v k l y e =
     (lt_or_ge b 128)
 
 -- a number that was read is within its limit, is written in the bytes read, and the next one starts behind them
-pub record Stands (s : List ℕ) (at limit v next : ℕ) : Type 0 where
+pub record Stands (s : List ℕ) (at limit v behind : ℕ) : Type 0 where
   pub within : v ≤ limit
-  pub next_is : next ≡ at + length (encode v)
+  pub next_is : behind ≡ at + length (encode v)
   pub bytes : take (length (encode v)) (drop at s) ≡ encode v
 
-answered : (s : List ℕ) (at limit v next : ℕ) → (r : Raw) → ((w j : ℕ) → r ≡ got w j → Encoded 0 (drop at s) w j)
-    → finish at limit r ≡ Number v next → Stands s at limit v next
+answered : (s : List ℕ) (at limit v behind : ℕ) → (r : Raw) → ((w j : ℕ) → r ≡ got w j → Encoded 0 (drop at s) w j)
+    → finish at limit r ≡ next v behind → Stands s at limit v behind
 unfolding finish
-answered s at limit v next (got w j) g e = go (ltb limit w) refl e
+answered s at limit v behind (got w j) g e = go (ltb limit w) refl e
   where
-    go : (t : Bool) → ltb limit w ≡ t → cond t (Refused 3 at) (Number w (at + j)) ≡ Number v next → Stands s at limit v next
+    go : (t : Bool) → ltb limit w ≡ t → cond t (stop 3 at) (next w (at + j)) ≡ next v behind → Stands s at limit v behind
     go true l q = let z : ◌≡◌ {A = ℕ} 0 1 = cc in absurd (omega arith)
     go false l q =
         let ev : w ≡ v = cc in
-        let en : at + j ≡ next = cc in
+        let en : at + j ≡ behind = cc in
         let r : Encoded 0 (drop at s) w j = g w j refl in
         let c : j ≡ length (encode v) = r.count ∙ ap (λ (x : ℕ). length (encode x)) ev in
         record {
@@ -126,31 +126,31 @@ answered s at limit v next (got w j) g e = go (ltb limit w) refl e
           next_is = omega arith;
           bytes = rw (← c, ← ev) r.bytes;
         }
-answered s at limit v next short g e = let z : ◌≡◌ {A = ℕ} 0 1 = cc in absurd (omega arith)
-answered s at limit v next wrong g e = let z : ◌≡◌ {A = ℕ} 0 1 = cc in absurd (omega arith)
+answered s at limit v behind short g e = let z : ◌≡◌ {A = ℕ} 0 1 = cc in absurd (omega arith)
+answered s at limit v behind wrong g e = let z : ◌≡◌ {A = ℕ} 0 1 = cc in absurd (omega arith)
 
-pub read_is_written : (s : List ℕ) (at limit v next : ℕ) → Bytes s → read_number s at limit ≡ Number v next → Stands s at limit v next
+pub read_is_written : (s : List ℕ) (at limit v behind : ℕ) → Bytes s → read_number s at limit ≡ next v behind → Stands s at limit v behind
 unfolding read_number
-read_is_written s at limit v next y e =
-    answered s at limit v next (read_groups groups 0 (drop at s))
+read_is_written s at limit v behind y e =
+    answered s at limit v behind (read_groups groups 0 (drop at s))
     (λ (w j : ℕ). read_is_encoded groups 0 (drop at s) w j (omega arith) (all_drop _ at s y)) e
 
 -- a number that was read is within its limit, whatever the bytes
-finish-within : (at limit v next : ℕ) (r : Raw) → finish at limit r ≡ Number v next → v ≤ limit
+finish-within : (at limit v behind : ℕ) (r : Raw) → finish at limit r ≡ next v behind → v ≤ limit
 unfolding finish
-finish-within at limit v next (got w j) e = go (ltb limit w) refl e
+finish-within at limit v behind (got w j) e = go (ltb limit w) refl e
   where
-    go : (t : Bool) → ltb limit w ≡ t → cond t (Refused 3 at) (Number w (at + j)) ≡ Number v next → v ≤ limit
+    go : (t : Bool) → ltb limit w ≡ t → cond t (stop 3 at) (next w (at + j)) ≡ next v behind → v ≤ limit
     go true l q = let z : ◌≡◌ {A = ℕ} 0 1 = cc in absurd (omega arith)
     go false l q =
         let ev : w ≡ v = cc in
         omega (arith, ltb-false limit w l)
-finish-within at limit v next short e = let z : ◌≡◌ {A = ℕ} 0 1 = cc in absurd (omega arith)
-finish-within at limit v next wrong e = let z : ◌≡◌ {A = ℕ} 0 1 = cc in absurd (omega arith)
+finish-within at limit v behind short e = let z : ◌≡◌ {A = ℕ} 0 1 = cc in absurd (omega arith)
+finish-within at limit v behind wrong e = let z : ◌≡◌ {A = ℕ} 0 1 = cc in absurd (omega arith)
 
-pub read_within : (s : List ℕ) (at limit v next : ℕ) → read_number s at limit ≡ Number v next → v ≤ limit
+pub read_within : (s : List ℕ) (at limit v behind : ℕ) → read_number s at limit ≡ next v behind → v ≤ limit
 unfolding read_number
-read_within s at limit v next e = finish-within at limit v next (read_groups groups 0 (drop at s)) e
+read_within s at limit v behind e = finish-within at limit v behind (read_groups groups 0 (drop at s)) e
 
 -- a part of a list, and what stands behind it
 pub past : (s xs rest : List ℕ) (at : ℕ) → drop at s ≡ xs ++ rest → drop (at + length xs) s ≡ rest
@@ -158,12 +158,12 @@ past s xs rest at h = sym (drop-drop (length xs) at s) ∙ ap (drop (length xs))
 
 -- where v is written, v is read
 pub read_at : (s rest : List ℕ) (at limit v : ℕ) → v < 128 ^ groups → v ≤ limit → drop at s ≡ encode v ++ rest
-    → read_number s at limit ≡ Number v (at + length (encode v))
+    → read_number s at limit ≡ next v (at + length (encode v))
 unfolding read_number finish
 read_at s rest at limit v f l h = rw (h, read_back (groups - 1) v 0 rest f (omega arith), le-ltb limit v l)
 
 -- a number above the limit, where it is written, is refused with 3
-pub read_above : (s rest : List ℕ) (at limit v : ℕ) → v < 128 ^ groups → limit < v → drop at s ≡ encode v ++ rest → read_number s at limit ≡ Refused 3 at
+pub read_above : (s rest : List ℕ) (at limit v : ℕ) → v < 128 ^ groups → limit < v → drop at s ≡ encode v ++ rest → read_number s at limit ≡ stop 3 at
 unfolding read_number finish
 read_above s rest at limit v f l h = rw (h, read_back (groups - 1) v 0 rest f (omega arith), lt-ltb limit v l)
 
@@ -187,6 +187,6 @@ wide (suc n) v least t h =
         pow-le-pow_right base least
 
 -- a number of more groups than there may be is refused with 2
-pub read_wide : (s rest : List ℕ) (at limit v : ℕ) → 128 ^ groups ≤ v → drop at s ≡ encode v ++ rest → read_number s at limit ≡ Refused 2 at
+pub read_wide : (s rest : List ℕ) (at limit v : ℕ) → 128 ^ groups ≤ v → drop at s ≡ encode v ++ rest → read_number s at limit ≡ stop 2 at
 unfolding read_number finish
 read_wide s rest at limit v f h = rw (h, wide groups v 0 rest f)

@@ -9,11 +9,11 @@ use lib.Dec.{ltb}
 use lib.ListN.{drop}
 use borrow.Author.Tests.{lt-ltb, le-ltb}
 use Rattle.number.specs.Number.{Raw, got, short, wrong, groups, read_groups, finish, read_number}
-use Rattle.number.specs.Reader.{stop, tested, unless, up_to, below, under, number_out}
-use Rattle.number.specs.declared.NumberRead.TheVariants.{Number, Refused}
+use Rattle.number.specs.Reader.{stop, tested, unless, up_to, below, under}
+use Rattle.number.specs.Number.{stop, next}
 use Rattle.number.proofs.Encoding.{lt_or_ge}
 
-below_raw : (b at : ℕ) → 1 ≤ b → (r : Raw) → number_out (finish at (b - 1) r) ≡ tested 3 (λ v. ltb v b) at (number_out (finish at b r))
+below_raw : (b at : ℕ) → 1 ≤ b → (r : Raw) → (finish at (b - 1) r) ≡ tested 3 (λ v. ltb v b) at ((finish at b r))
 unfolding finish
 below_raw b at l short = refl
 below_raw b at l wrong = refl
@@ -26,7 +26,7 @@ below_raw b at l (got v n) =
     (λ (h : b ≤ v). let h₁ : b - 1 < v = omega arith in rw (lt-ltb (b - 1) v h₁) (past (ltb b v) h))
     (lt_or_ge v b)
   where
-    past : (t : Bool) → b ≤ v → stop 3 at ≡ tested 3 (λ v. ltb v b) at (number_out (cond t (Refused 3 at) (Number v (at + n))))
+    past : (t : Bool) → b ≤ v → stop 3 at ≡ tested 3 (λ v. ltb v b) at ((cond t (stop 3 at) (next v (at + n))))
     past true h = refl
     past false h = rw (le-ltb v b h)
 

@@ -1,8 +1,6 @@
 -- A record's numbers: groups of seven bits, lowest group first, shortest form.
 use Rattle.std.specs.Prelude.{ℕ, zero, suc, ◌+◌, ◌-◌, ◌*◌, ◌/◌, ◌%◌, ◌<◌, List, [], ◌∷◌, ◌++◌, cond, length, take, drop, ltb}
 use Rattle.finite.specs.Lists.{All}
-use Rattle.number.specs.declared.NumberRead.{NumberRead}
-use Rattle.number.specs.declared.NumberRead.TheVariants.{Number, Refused}
 
 -- each number of the list is a byte
 abbrev pub Bytes : List ℕ → Type 0
@@ -11,6 +9,11 @@ Bytes s = All (λ b. b < 256) s
 -- the most groups of a number
 abbrev pub groups : ℕ
 groups = 5
+
+-- what a reader answers: a refusal and its place, or what it read and the next place
+pub data Out (A : Type 0) : Type 0 where
+  stop : (refusal place : ℕ) → Out A
+  next : A → (place : ℕ) → Out A
 
 -- what the groups say: a value and how many bytes it took; the bytes end; the form is wrong
 pub data Raw : Type 0 where
@@ -31,12 +34,12 @@ read_groups (suc n) least [] = short
 read_groups (suc n) least (b ∷ s) =
     cond (ltb b 128) (cond (ltb b least) wrong (got b 1)) (after (b - 128) 128 1 (read_groups n 1 s))
 
-unfoldable pub finish : ℕ → ℕ → Raw → NumberRead
-finish at limit (got v n) = cond (ltb limit v) (Refused 3 at) (Number v (at + n))
-finish at limit short = Refused 1 at
-finish at limit wrong = Refused 2 at
+unfoldable pub finish : ℕ → ℕ → Raw → Out ℕ
+finish at limit (got v n) = cond (ltb limit v) (stop 3 at) (next v (at + n))
+finish at limit short = stop 1 at
+finish at limit wrong = stop 2 at
 
-unfoldable pub read_number : List ℕ → ℕ → ℕ → NumberRead
+unfoldable pub read_number : List ℕ → ℕ → ℕ → Out ℕ
 read_number s at limit = finish at limit (read_groups groups 0 (drop at s))
 
 -- v in groups, by as much fuel as v; `rest` is bound so that computing it ends with the groups, and not with the fuel

@@ -1,15 +1,11 @@
 -- Readers of a list of bytes from a place on.
 -- Assumes nothing.
-use Rattle.std.specs.Prelude.{ℕ, zero, suc, ◌-◌, Bool, cond, List, [], ◌∷◌, ◌++◌, leb, ltb}
+use Rattle.std.specs.Prelude.{ℕ, zero, suc, ◌-◌, Bool, cond, List, [], ◌∷◌, ◌++◌, leb, ltb, Result, Ok, Err}
 use Rattle.number.specs.Number.{read_number}
+pub use Rattle.number.specs.Number.{Out, stop, next}
 use Rattle.number.specs.declared.Refusal.{Refusal}
-use Rattle.number.specs.declared.NumberRead.{NumberRead}
-use Rattle.number.specs.declared.NumberRead.TheVariants.{Number, Refused}
-
--- what a reader answers: a refusal and its place, or what it read and the next place
-pub data Out (A : Type 0) : Type 0 where
-  stop : (refusal place : ℕ) → Out A
-  next : A → (place : ℕ) → Out A
+use Rattle.number.specs.declared.Fault.{Fault}
+use Rattle.number.specs.declared.Fault.TheVariants.{Ends, Form, Range, Turn, Unprintable}
 
 -- all the bytes, and the place to read at
 abbrev pub Reader : Type 0 → Type 0
@@ -50,17 +46,28 @@ another r as' = do
 unfoldable pub times : {A : Type 0} → ℕ → Reader A → Reader (List A)
 times i r = turns i (another r) []
 
-abbrev pub number_out : NumberRead → Out ℕ
-number_out (Number v p) = next v p
-number_out (Refused x p) = stop x p
+-- 01: the number of a refusal
+abbrev pub number_of : Fault → ℕ
+number_of Ends = 1
+number_of Form = 2
+number_of Range = 3
+number_of Turn = 4
+number_of Unprintable = 23
 
-unfoldable pub refusal_of : NumberRead → Refusal
-refusal_of (Number v p) = record { number = 0; place = 0 }
-refusal_of (Refused x p) = record { number = x; place = p }
+abbrev pub refused : {A : Type 0} → Refusal → Out A
+refused e = stop (number_of e.fault) e.place
+
+-- what the code answers, as a reader does: what was read, in the model's terms by f, and the next place, or a refusal
+abbrev pub outcome_by : {A B : Type 0} → (A → B) → Result (A × ℕ) Refusal → Out B
+outcome_by f (Ok r) = next (f r.0) r.1
+outcome_by f (Err e) = refused e
+
+abbrev pub outcome : {A : Type 0} → Result (A × ℕ) Refusal → Out A
+outcome r = outcome_by (λ a. a) r
 
 -- a number from 0 to hi
 unfoldable pub up_to : ℕ → Reader ℕ
-up_to hi s at = number_out (read_number s at hi)
+up_to hi s at = read_number s at hi
 
 -- a number from lo to hi
 unfoldable pub within : ℕ → ℕ → Reader ℕ

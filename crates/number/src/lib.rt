@@ -3,108 +3,101 @@
 
 ghost use Rattle.std.specs.Prelude.{◌≡◌, ◌+◌, ◌≤◌, ◌<◌, length};
 ghost use Rattle.number.specs.Number.{read_number, encode, widest, splice};
-ghost use Rattle.number.specs.Reader.{number_out, refusal_of, within, under};
+ghost use Rattle.number.specs.Reader.{number_of, outcome, within, under};
 
 // The most groups of a number.
 pub const GROUPS: usize = 5;
 
-// What reading a number finds: the number and where the next one starts, or a refusal and where this one starts.
-#[derive(Clone, Copy)]
-pub enum NumberRead {
-    Number(u32, usize),
-    Refused(u8, usize),
+// Why bytes can't be read. The numbers are those that answers give.
+#[derive(Clone, Copy, Debug, PartialEq, Eq)]
+pub enum Fault {
+    // they end
+    Ends = 1,
+    // a number has too many groups, or a needless one
+    Form = 2,
+    // a number is out of its range
+    Range = 3,
+    // what was read may not stand where it does
+    Turn = 4,
+    // a byte of a name is not printable
+    Unprintable = 23,
 }
 
-// A refusal and its place.
-#[derive(Clone, Copy)]
+impl Fault {
+    // The fault of what starts at a place.
+    pub fn at(self, place: usize) -> Refusal
+        ensures { result ≡ record { fault = self; place = place } }
+    {
+        Refusal { fault: self, place }
+    }
+}
+
+impl From<Fault> for u32 {
+    ghost from_gives = { λ fault n. n ≡ number_of fault };
+
+    fn from(fault: Fault) -> u32 {
+        fault as u32
+    }
+}
+
+// A fault, and where what is faulty starts.
+#[derive(Clone, Copy, Debug, PartialEq, Eq)]
 pub struct Refusal {
-    pub number: u8,
+    pub fault: Fault,
     pub place: usize,
 }
 
-// What a number that can't be read gives.
-pub fn refused(r: NumberRead) -> Refusal
-    ensures { result ≡ refusal_of r }
+// Reads a number from least to most; gives it, and where the next one starts.
+pub fn read_within(bytes: &[u8], at: usize, least: u32, most: u32) -> Result<(u32, usize), Refusal>
+    ensures { outcome result ≡ within least most bytes.now at }
 {
-    match r {
-        NumberRead::Refused(number, place) => Refusal { number, place },
-        NumberRead::Number(_, _) => Refusal {
-            number: 0,
-            place: 0,
-        },
-    }
-}
-
-// Reads a number from least to most.
-pub fn read_within(bytes: &[u8], at: usize, least: u32, most: u32) -> NumberRead
-    ensures { number_out result ≡ within least most bytes.now at }
-{
-    let read = read_number(bytes, at, most);
-    let NumberRead::Number(v, next) = read else {
-        return read;
-    };
+    let (v, next) = read_number(bytes, at, most)?;
     if v < least {
-        return NumberRead::Refused(3, at);
+        return Err(Fault::Range.at(at));
     }
-    NumberRead::Number(v, next)
+    Ok((v, next))
 }
 
 // Reads a number below a bound, which may be 0: then there is none.
-pub fn read_under(bytes: &[u8], at: usize, bound: u32) -> NumberRead
-    ensures { number_out result ≡ under bound bytes.now at }
+pub fn read_under(bytes: &[u8], at: usize, bound: u32) -> Result<(u32, usize), Refusal>
+    ensures { outcome result ≡ under bound bytes.now at }
 {
-    let read = read_number(bytes, at, bound);
-    let NumberRead::Number(v, next) = read else {
-        return read;
-    };
+    let (v, next) = read_number(bytes, at, bound)?;
     if v < bound {
-        return NumberRead::Number(v, next);
+        return Ok((v, next));
     }
-    NumberRead::Refused(3, at)
+    Err(Fault::Range.at(at))
 }
 
-fn wide(x: u8) -> u64
-    ensures { result ≡ x }
-{
-    x as u64
-}
-
-fn wide32(x: u32) -> u64
-    ensures { result ≡ x }
-{
-    x as u64
-}
-
-pub fn read_number(bytes: &[u8], at: usize, limit: u32) -> NumberRead
-    ensures { result ≡ read_number bytes.now at limit }
+// Reads a number up to a limit.
+pub fn read_number(bytes: &[u8], at: usize, limit: u32) -> Result<(u32, usize), Refusal>
+    ensures { outcome result ≡ read_number bytes.now at limit }
 {
     let mut place = at;
-    let mut left = GROUPS;
     let mut least: u64 = 0;
     let mut value: u64 = 0;
     let mut scale: u64 = 1;
-    while 0 < left {
+    for _ in 0..GROUPS {
         if bytes.len() <= place {
-            return NumberRead::Refused(1, at);
+            return Err(Fault::Ends.at(at));
         }
-        let b = wide(bytes[place]);
+        let b = u64::from(bytes[place]);
         place += 1;
         if b < 128 {
             if b < least {
-                return NumberRead::Refused(2, at);
+                return Err(Fault::Form.at(at));
             }
             let v = value + b * scale;
-            if wide32(limit) < v {
-                return NumberRead::Refused(3, at);
+            if u64::from(limit) < v {
+                return Err(Fault::Range.at(at));
             }
-            return NumberRead::Number(v as u32, place);
+            return Ok((v as u32, place));
         }
         value += (b - 128) * scale;
         scale *= 128;
         least = 1;
-        left -= 1;
     }
-    NumberRead::Refused(2, at)
+    Err(Fault::Form.at(at))
 }
 
 // How many bytes v takes.
