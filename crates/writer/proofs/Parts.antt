@@ -27,6 +27,7 @@ use Rattle.case.specs.Stores.{store_at, writes_at}
 use Rattle.case.proofs.Means.{writes-of}
 use Rattle.writer.specs.Stages.{run, sum, initial_at, event_at, listing_bytes, link_at, links_bytes, entry_at, writes_of, bit_bytes, row_at, pairs_at, pairs, order_at, byte_at, name_bytes, rest_bytes, Room, Wrote, Size}
 use Rattle.writer.specs.Stored.{stored_of}
+use Rattle.std.specs.Prelude.{Ok, Err}
 use Rattle.writer.proofs.Runs.{size-append, size_three, room-first, room-then, wrote_then, room-one, room_two, room_three, wrote_three}
 
 -- ---- runs and tables
@@ -230,14 +231,14 @@ module _ (c : Held) where
 
 -- ---- a record put in a lent buffer
 module _ (w s : List ℕ) (at n : ℕ) (e : n ≡ length w) where
-  pub put_done : at ≤ length s → n ≤ length s - at → (t : List ℕ) → t ≡ splice s at w → stored_of (record { number = 0; length = n }) t ≡ put w s at
+  pub put_done : at ≤ length s → n ≤ length s - at → (t : List ℕ) → t ≡ splice s at w → stored_of (Ok n) t ≡ put w s at
   unfolding stored_of put
   put_done a l t h = let g : length w ≤ length s - at = omega arith in rw (le-leb at (length s) a, le-leb (length w) (length s - at) g, e, h)
 
-  pub put_past : length s < at → stored_of (record { number = 6; length = 0 }) s ≡ put w s at
+  pub put_past : length s < at → stored_of (Err (record {})) s ≡ put w s at
   unfolding stored_of put
   put_past l = rw (lt-leb at (length s) l)
 
-  pub put-short : at ≤ length s → length s - at < n → stored_of (record { number = 6; length = 0 }) s ≡ put w s at
+  pub put-short : at ≤ length s → length s - at < n → stored_of (Err (record {})) s ≡ put w s at
   unfolding stored_of put
   put-short a l = let g : length s - at < length w = omega arith in rw (le-leb at (length s) a, lt-leb (length w) (length s - at) g)

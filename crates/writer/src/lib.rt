@@ -13,12 +13,9 @@ ghost use Rattle.writer.specs.Stored.{stored_of};
 
 use case::Case;
 
-// 0 and the record's length, or 6 and 0.
-#[derive(Clone, Copy)]
-pub struct Written {
-    pub number: u8,
-    pub length: usize,
-}
+// The record does not fit in the buffer from the place on: 6.
+#[derive(Clone, Copy, Debug, PartialEq, Eq)]
+pub struct NoRoom;
 
 fn wide(x: u8) -> u32
     ensures { result ≡ x }
@@ -804,21 +801,16 @@ fn write_record(out: &mut [u8], c: Case) -> usize
     )
 }
 
-// Writes the record of a case into the part of a lent buffer that starts at the given place; 6 where it does not fit there, and then
-// nothing is written.
-pub fn put(c: Case, out: &mut [u8], at: usize) -> Written
+// Writes the record of a case into the part of a lent buffer that starts at the given place, and gives its length; where it does not
+// fit there, nothing is written.
+pub fn put(c: Case, out: &mut [u8], at: usize) -> Result<usize, NoRoom>
     requires { Sound c }
     ensures { stored_of result out.new ≡ put_of (record_of (case_of c)) out.old at }
 {
     let length = size(c);
-    if at <= out.len() {
-        if length <= out.len() - at {
-            write_record(&mut out[at..], c);
-            return Written { number: 0, length };
-        }
+    if out.len() < at || out.len() - at < length {
+        return Err(NoRoom);
     }
-    Written {
-        number: 6,
-        length: 0,
-    }
+    write_record(&mut out[at..], c);
+    Ok(length)
 }

@@ -2,15 +2,12 @@
 use Rattle.number.proofs.Splice.{splice-part}
 use Rattle.writer.proofs.Parts.{put_done, put_past, put-short}
 use Rattle.writer.proofs.put.Goals as goal
+use Rattle.writer.proofs.put.Goals.{then-out-at-via-then-out-at, then-out-at-via-else-out-at+then-out-at-2}
 
-pub returns-then-length-out : goal.returns-then-length-out
-returns-then-length-out c =
-    put_done _ _ _ _ c.size-length.ensures c.if-at-out.true c.if-length-out.true _ (splice-part _ _ _ _ c.write_record.ensures.buffer)
+pub returns-then-out-at : goal.returns-then-out-at
+returns-then-out-at c =
+    elim c.then-out-at.branch [ then-out-at-via-then-out-at w ↦ search put_past | then-out-at-via-else-out-at+then-out-at-2 w ↦ search put-short ]
 
-pub returns-else-length-out : goal.returns-else-length-out
-returns-else-length-out c =
-    search put-short
-
-pub returns-else-at-out : goal.returns-else-at-out
-returns-else-at-out c =
-    search put_past
+pub returns : goal.returns
+returns c =
+    put_done _ _ _ _ c.size-length.ensures (search) (search) _ (splice-part _ _ _ _ c.write_record.ensures.buffer)
