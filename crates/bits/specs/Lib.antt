@@ -1,1 +1,2 @@
 pub mod Bit
+pub mod Members

@@ -1,10 +1,14 @@
 // A set of events as a number of 64 bits: event i is in the set where bit i is set.
 #![tactic(auto)]
 
-ghost use Rattle.std.specs.Prelude.{◌≡◌, ◌-◌, ◌^◌, ◌<◌, ◌≤◌};
+ghost use Rattle.std.specs.Prelude.{◌≡◌, ◌&&◌, ℕ, ◌-◌, ◌^◌, ◌<◌, ◌≤◌, ltb};
 ghost use Rattle.std.specs.Int.Bits.{bit_and, bit_or};
+ghost use Rattle.std.specs.Iterator.{at_most};
 ghost use Rattle.bits.specs.Bit.{bit, width};
+ghost use Rattle.bits.specs.Members.{Takes};
 ghost use Rattle.finite.specs.Tests.{all, ◌⇒◌, count};
+
+use std::marker::Model;
 
 // The events that a set can hold are those below this.
 const WIDTH: usize = 64;
@@ -65,4 +69,50 @@ pub fn size_below(row: u64, k: usize) -> usize
     ensures { result ≡ count k (bit row) }
 {
     u64::count_ones(both(row, below(k))) as usize
+}
+
+// What is left of a set, whose events are taken out of it one by one.
+#[derive(Clone, Debug, Drop)]
+pub struct MembersLeft {
+    rest: u64,
+}
+
+impl Model for MembersLeft {
+    ghost Value = { ℕ };
+
+    ghost view = { λ m. m.rest };
+
+    ghost invariant = { λ m. m.rest < 2 ^ width };
+}
+
+impl Iterator for MembersLeft {
+    type Item = usize;
+
+    ghost next_gives = { Takes };
+
+    ghost remaining = { λ set. at_most set };
+
+    fn next(&mut self) -> Option<usize> {
+        if self.rest == 0 {
+            return None;
+        }
+        let first = u64::trailing_zeros(self.rest) as usize;
+        self.rest = self.rest & (self.rest - 1);
+        Some(first)
+    }
+}
+
+// The events of the set, the least first.
+pub fn members(set: u64) -> MembersLeft
+    ensures { result ≡ set }
+{
+    MembersLeft { rest: set }
+}
+
+// The events of the set that are below k, the least first.
+pub fn members_below(set: u64, k: usize) -> MembersLeft
+    requires { k ≤ width }
+    ensures { (e : ℕ) → bit result e ≡ (bit set e && ltb e k) }
+{
+    members(both(set, below(k)))
 }

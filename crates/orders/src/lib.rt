@@ -211,12 +211,10 @@ fn connected_order(
     requires p_lt_most_threads { p < most_threads }
     ensures { result ≡ all k (connected k (bit own) (order_in asked.now p)) }
 {
-    let mut rest = bits::both(own, bits::below(k));
-    while rest != 0 {
-        if !connected_event(own, asked, k, p, rows::lowest(rest)) {
+    for a in bits::members_below(own, k) {
+        if !connected_event(own, asked, k, p, a) {
             return false;
         }
-        rest = rows::but_lowest(rest);
     }
     true
 }

@@ -2,3 +2,4 @@ pub mod Loops
 pub mod SetLaws
 pub mod AsRules
 pub mod Visits
+pub mod Each

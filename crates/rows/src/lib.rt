@@ -93,10 +93,8 @@ pub fn after(
     ensures { Set result (λ e. some k (λ b. bit set b && order_in rows.now p b e)) }
 {
     let mut found: u64 = 0;
-    let mut rest = bits::both(set, bits::below(k));
-    while rest != 0 {
-        found = found | row(rows, p, lowest(rest));
-        rest = but_lowest(rest);
+    for b in bits::members_below(set, k) {
+        found = found | row(rows, p, b);
     }
     found
 }

@@ -1,47 +1,24 @@
 -- `orders::connected_order` meets its contract. Assumes nothing.
-use borrow.Author.Rules.{rules}
-use Rattle.rows.proofs.Visits.{visit_all, visit_in, visit_fails, visit_next, visit_ends, lowest_less}
-use Rattle.rows.proofs.SetLaws.{masked}
+use Rattle.rows.proofs.Each.{pass_first, event_below, pass_next, pass_fails, pass_end}
 use Rattle.finite.proofs.Tests.{imp_no}
-use mathlib.Core.Path.{ap}
-use mathlib.Core.Bool.{not}
 use Rattle.orders.proofs.connected_order.Goals as goal
 
-pub loop-rest-init : goal.loop-rest-init
-loop-rest-init c =
-    visit_all c.both-rest.type_inv (masked c.args.k c.args.own c.both-rest.ensures c.below.ensures) (λ i h. imp_no _ _ (h))
-
-pub connected_event-requires-clause-k_le_most_events : goal.connected_event-requires-clause-k_le_most_events
-connected_event-requires-clause-k_le_most_events c =
-    let b = visit_in c.loop-rest.invariant c.loop-rest-test.true c.lowest.ensures in
-    search rules
-
-pub connected_event-requires-clause-p_lt_most_threads : goal.connected_event-requires-clause-p_lt_most_threads
-connected_event-requires-clause-p_lt_most_threads c =
-    let b = visit_in c.loop-rest.invariant c.loop-rest-test.true c.lowest.ensures in
-    search rules
+pub loop-a-init : goal.loop-a-init
+loop-a-init c =
+    pass_first c.into_iter-a-iterator.ensures.into_iter_gives c.members_below-a-items.ensures (λ i h. imp_no _ _ h)
 
 pub connected_event-requires-clause-a_lt_k : goal.connected_event-requires-clause-a_lt_k
 connected_event-requires-clause-a_lt_k c =
-    let b = visit_in c.loop-rest.invariant c.loop-rest-test.true c.lowest.ensures in
-    search rules
+    event_below c.loop-a.invariant.within c.in-Some.ensures.steps
 
 pub returns-then-not-connected_event : goal.returns-then-not-connected_event
 returns-then-not-connected_event c =
-    visit_fails c.loop-rest.invariant c.loop-rest-test.true c.lowest.ensures c.connected_event.ensures (ap not c.if-not-connected_event.true)
+    pass_fails c.loop-a.invariant c.in-Some.ensures.steps c.connected_event.ensures c.if-not-connected_event.true
 
-pub but_lowest-rest-requires : goal.but_lowest-rest-requires
-but_lowest-rest-requires c =
-    c.loop-rest-test.true
-
-pub loop-rest-smaller : goal.loop-rest-smaller
-loop-rest-smaller c =
-    lowest_less c.loop-rest-test.true c.but_lowest-rest.ensures
-
-pub loop-rest-preserved : goal.loop-rest-preserved
-loop-rest-preserved c =
-    visit_next c.loop-rest.invariant c.loop-rest-test.true c.lowest.ensures c.connected_event.ensures (ap not c.if-not-connected_event.false) c.but_lowest-rest.ensures
+pub loop-a-preserved : goal.loop-a-preserved
+loop-a-preserved c =
+    pass_next c.loop-a.invariant c.in-Some.ensures.steps c.connected_event.ensures c.if-not-connected_event.false
 
 pub returns : goal.returns
 returns c =
-    visit_ends c.loop-rest.invariant c.loop-rest-test.false
+    pass_end c.loop-a.invariant c.in-None.ensures.steps
