@@ -1,3 +1,4 @@
 pub mod Means
+pub mod Models
 pub mod Same
 pub mod Last

@@ -29,7 +29,13 @@ use Rattle.values.specs.Parts.{equal_in, thread_in}
 use Rattle.columns.specs.Columns.{Columns}
 use Rattle.by_columns.specs.Parts.{WithColumns, Shared, applies_in, read_in}
 use Rattle.rules.specs.declared.EventSets.{EventSets}
-use Rattle.rules.specs.Verdict.{Agrees, InRange, Sorted, Listed, Seen, Judged, model_of, shared_in, seen_in, judged_in, fresh_in, order_verdict, value_verdict, barrier_verdict, order_broken, value_broken, barrier_broken}
+use Rattle.rules.specs.declared.Model.{Model as Given}
+use Rattle.rules.specs.declared.Model.TheVariants.{Ppcw, Ppcs}
+use Rattle.rules.specs.declared.Rule.{Rule}
+use Rattle.rules.specs.declared.Rule.TheVariants.{StrictOrder, OwnOrder, ProgramOrder, Coherence, EarlierStore, LatestStore, Barrier, CumulativeBarrier}
+use Rattle.rules.specs.Models.{model_of}
+use Rattle.rules.specs.Broken.{rule_number}
+use Rattle.rules.specs.Verdict.{Agrees, InRange, Sorted, Listed, Seen, Judged, shared_in, seen_in, judged_in, fresh_in, order_verdict, value_verdict, barrier_verdict, order_broken, value_broken, barrier_broken}
 use Rattle.rules.proofs.Means.{thread-in, address_in, value-in, initial_in, before_in, load_in, store-in, sync_in, barrier_in, of_in, depends-in, load_full, store-full, full-kind, twice_not, not-not}
 
 -- under a test
@@ -163,14 +169,14 @@ module _ (c : Held) (g : EventSets) (sound : Sound c) (agree : Agrees (case_of c
         ∙ ap (λ s. s || of (case_of c) p e) (paired_in p lp e le);
   }
 
-  pub judged-in : {those judge : List ℕ} (strong : Bool) → Seen (case_of c) those
-      → Sets c.threads judge (judged_in strong g.loads g.own those) → Judged (case_of c) (model_of strong) judge
+  pub judged-in : {those judge : List ℕ} (model : Given) → Seen (case_of c) those
+      → Sets c.threads judge (judged_in model g.loads g.own those) → Judged (case_of c) (model_of model) judge
   unfolding judged case_of
-  judged-in {those} strong v j = record { is = λ p lp l ll. j.has p lp l ∙ by p lp l ll strong }
+  judged-in {those} model v j = record { is = λ p lp l ll. j.has p lp l ∙ by p lp l ll model }
     where
-      by : (p : ℕ) → p < c.threads → (l : ℕ) → l < c.events → (b : Bool) → judged_in b g.loads g.own those p l ≡ judged (case_of c) (model_of b) p l
-      by p lp l ll true = ap₂ (λ s t. s && t) (agree.load l ll) (v.is p lp l ll)
-      by p lp l ll false = ap₂ (λ s t. s && t) (agree.load l ll) (agree.own p lp l ll)
+      by : (p : ℕ) → p < c.threads → (l : ℕ) → l < c.events → (w : Given) → judged_in w g.loads g.own those p l ≡ judged (case_of c) (model_of w) p l
+      by p lp l ll Ppcw = ap₂ (λ s t. s && t) (agree.load l ll) (agree.own p lp l ll)
+      by p lp l ll Ppcs = ap₂ (λ s t. s && t) (agree.load l ll) (v.is p lp l ll)
 
   judged-load : (w : Model) (p l : ℕ) → judged (case_of c) w p l ≡ true → is_load (case_of c) l ≡ true
   unfolding judged
@@ -333,6 +339,17 @@ module _ {x a : Bool} (e : x ≡ a) (i rest : ℕ) where
 
   pub goes_on : not x ≡ false → {r : ℕ} → r ≡ rest → r ≡ or_else a i rest
   goes_on t h = h ∙ ap (λ b. or_else b i rest) (sym (sym e ∙ not-false x t))
+
+-- a rule's number is not that of none
+pub no_zero : (r : Rule) → rule_number r ≡ 0 → ⊥
+no_zero StrictOrder h = absurd (omega arith)
+no_zero OwnOrder h = absurd (omega arith)
+no_zero ProgramOrder h = absurd (omega arith)
+no_zero Coherence h = absurd (omega arith)
+no_zero EarlierStore h = absurd (omega arith)
+no_zero LatestStore h = absurd (omega arith)
+no_zero Barrier h = absurd (omega arith)
+no_zero CumulativeBarrier h = absurd (omega arith)
 
 -- two rules that hold
 pub none-broken : (i j : ℕ) {a b : Bool} → a ≡ true → b ≡ true → 0 ≡ or_else a i (or_else b j 0)

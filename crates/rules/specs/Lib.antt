@@ -1,2 +1,4 @@
 pub mod Verdict
 pub mod Finals
+pub mod Models
+pub mod Broken

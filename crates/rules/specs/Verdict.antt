@@ -1,10 +1,10 @@
 -- A struct's sets against the case that it means, and the parts of its verdict.
 -- Assumes nothing.
-use Rattle.std.specs.Prelude.{ℕ, ◌+◌, ◌*◌, ◌≤◌, ◌<◌, ◌≡◌, Bool, true, false, not, ◌&&◌, ◌||◌, List, eqb, ltb, get_or}
+use Rattle.std.specs.Prelude.{ℕ, ◌+◌, ◌*◌, ◌≤◌, ◌<◌, ◌≡◌, Bool, true, not, ◌&&◌, ◌||◌, List, eqb, ltb, get_or}
 use Rattle.std.specs.Int.Bits.{bit_or}
 use Rattle.bits.specs.Bit.{bit}
 use Rattle.model.specs.Case.{Case, load, store, sync}
-use Rattle.model.specs.Rules.{Model, PPCw, PPCs, of, is_load, is_store, is_sync, is_barrier, one_address, depends, seen, judged, or_else, rule11, rule12, rule13, rule14, rule15, rule16, rule17, rule18}
+use Rattle.model.specs.Rules.{Model, of, is_load, is_store, is_sync, is_barrier, one_address, depends, seen, judged, or_else, rule11, rule12, rule13, rule14, rule15, rule16, rule17, rule18}
 use Rattle.finite.specs.Tests.{count}
 use Rattle.model.specs.Limits.{most_threads, most_addresses, most_events, most_dependencies}
 use Rattle.rows.specs.Sets.{Set, Sets, order_in, set_in, store_in, depends_in}
@@ -13,11 +13,8 @@ use Rattle.orders.specs.Parts.{written_in}
 use Rattle.values.specs.Parts.{equal_in, thread_in}
 use Rattle.by_columns.specs.Parts.{applies_in, read_in}
 use Rattle.rules.specs.declared.EventSets.{EventSets}
-
--- PPCs or PPCw
-abbrev pub model_of : Bool → Model
-model_of true = PPCs
-model_of false = PPCw
+use Rattle.rules.specs.declared.Model.{Model as Given}
+use Rattle.rules.specs.declared.Model.TheVariants.{Ppcw, Ppcs}
 
 -- the sets are the case's
 pub record Agrees (c : Case) (g : EventSets) : Type 0 where
@@ -68,14 +65,14 @@ pub record Judged (c : Case) (w : Model) (sets : List ℕ) : Type 0 where
 abbrev pub seen_in : (k : ℕ) (known own : List ℕ) → ℕ → ℕ → Bool
 seen_in k known own p e = (ltb e k && pairs k (order_in known) p e) || set_in own p e
 
--- the loads of those seen, if strong, or else of its own
-abbrev pub chosen_in : Bool → (loads own seen : ℕ) → ℕ → Bool
-chosen_in true loads own seen l = bit loads l && bit seen l
-chosen_in false loads own seen l = bit loads l && bit own l
+-- the loads of its own, or under PPCs of those seen
+abbrev pub chosen_in : Given → (loads own seen : ℕ) → ℕ → Bool
+chosen_in Ppcw loads own seen l = bit loads l && bit own l
+chosen_in Ppcs loads own seen l = bit loads l && bit seen l
 
 -- by thread, what 15 and 16 speak of
-abbrev pub judged_in : Bool → (loads : ℕ) (own seen : List ℕ) → ℕ → ℕ → Bool
-judged_in strong loads own seen p l = chosen_in strong loads (get_or own p 0) (get_or seen p 0) l
+abbrev pub judged_in : Given → (loads : ℕ) (own seen : List ℕ) → ℕ → ℕ → Bool
+judged_in model loads own seen p l = chosen_in model loads (get_or own p 0) (get_or seen p 0) l
 
 -- a load that holds the initial value
 abbrev pub fresh_in : (loads : ℕ) (values addresses initial : List ℕ) → ℕ → Bool

@@ -12,9 +12,65 @@ ghost use Rattle.rows.specs.Sets.{Set, Sets, order_in};
 ghost use Rattle.rows.specs.May.{may11};
 ghost use Rattle.by_columns.specs.Parts.{WithColumns, Shared};
 ghost use Rattle.rules.specs.Finals.{stored_in, value_in, last_in, final_in};
-ghost use Rattle.rules.specs.Verdict.{InRange, Sorted, Listed, model_of, shared_in, seen_in, chosen_in, judged_in, fresh_in, order_broken, value_broken, barrier_broken};
+ghost use Rattle.rules.specs.Models.{Numbered, model_of};
+ghost use Rattle.rules.specs.Broken.{rule_number, verdict_number};
+ghost use Rattle.rules.specs.Verdict.{InRange, Sorted, Listed, shared_in, seen_in, chosen_in, judged_in, fresh_in, order_broken, value_broken, barrier_broken};
 
 use case::Case;
+
+// The model that a case is judged under.
+#[derive(Clone, Copy, Debug, PartialEq, Eq)]
+pub enum Model {
+    Ppcw,
+    Ppcs,
+}
+
+// A number that no model has.
+#[derive(Clone, Copy, Debug, PartialEq, Eq)]
+pub struct NoModel;
+
+impl TryFrom<u64> for Model {
+    type Error = NoModel;
+
+    ghost try_from_gives = { Numbered };
+
+    fn try_from(number: u64) -> Result<Self, NoModel> {
+        match number {
+            0 => Ok(Model::Ppcw),
+            1 => Ok(Model::Ppcs),
+            _ => Err(NoModel),
+        }
+    }
+}
+
+// What a case may break. The numbers are those that answers give.
+#[derive(Clone, Copy, Debug, PartialEq, Eq)]
+pub enum Rule {
+    // each thread's order is irreflexive and transitive
+    StrictOrder = 11,
+    // it orders the thread's own events
+    OwnOrder = 12,
+    // it keeps what the program orders
+    ProgramOrder = 13,
+    // it orders stores to one address as the write order does
+    Coherence = 14,
+    // a load holds the initial value, or a store to its address comes before it
+    EarlierStore = 15,
+    // a load holds the value of the latest store before it
+    LatestStore = 16,
+    // what a thread's barrier orders, every thread orders
+    Barrier = 17,
+    // and what comes after a load of a store behind the barrier
+    CumulativeBarrier = 18,
+}
+
+impl From<Rule> for u32 {
+    ghost from_gives = { λ rule n. n ≡ rule_number rule };
+
+    fn from(rule: Rule) -> u32 {
+        rule as u32
+    }
+}
 
 // The sets of a case's events: those of each thread; loads, stores, barriers and, of these, syncs; and by event those that use
 // its address and those that depend on it.
@@ -90,27 +146,30 @@ fn seen_sets<'a>(
     out
 }
 
-// The loads of those seen, if strong, or else of its own.
-fn judged_set(strong: bool, loads: u64, own: u64, seen: u64) -> u64
-    ensures { Set result (chosen_in strong loads own seen) }
+// The loads of its own under PPCw, and of those seen under PPCs.
+fn judged_set(model: Model, loads: u64, own: u64, seen: u64) -> u64
+    ensures { Set result (chosen_in model loads own seen) }
 {
-    if strong { loads & seen } else { loads & own }
+    match model {
+        Model::Ppcw => loads & own,
+        Model::Ppcs => loads & seen,
+    }
 }
 
-// By thread, the loads that rules 15 and 16 speak of: its own, or if strong those that it sees.
+// By thread, the loads that rules 15 and 16 speak of: its own, or under PPCs those that it sees.
 fn judged_sets(
-    strong: bool,
+    model: Model,
     loads: u64,
     own: &[u64; Case::MOST_THREADS],
     seen: &[u64; Case::MOST_THREADS],
     n: usize,
 ) -> [u64; Case::MOST_THREADS]
     requires { n ≤ most_threads }
-    ensures { Sets n result (judged_in strong loads own.now seen.now) }
+    ensures { Sets n result (judged_in model loads own.now seen.now) }
 {
     let mut out = [0u64; Case::MOST_THREADS];
     for p in 0..n {
-        out[p] = judged_set(strong, loads, own[p], seen[p]);
+        out[p] = judged_set(model, loads, own[p], seen[p]);
     }
     out
 }
@@ -153,7 +212,7 @@ fn fresh_loads<'a>(
     found
 }
 
-// The lowest broken of rules 11 to 14, or 0.
+// The lowest broken of rules 11 to 14, if any.
 fn broken_order<'a>(
     own: &'a [u64; Case::MOST_THREADS],
     barriers: u64,
@@ -166,27 +225,27 @@ fn broken_order<'a>(
     columns: &'a [u64; Case::MOST_THREADS * Case::MOST_EVENTS],
     n: usize,
     k: usize,
-) -> u8
+) -> Result<(), Rule>
     requires with_columns { WithColumns n k rows.now columns.now }
     requires listed { Listed k stores partners.now addresses.now writes.now }
-    ensures { result ≡ order_broken n k own.now barriers stores partners.now dependents.now addresses.now writes.now rows.now }
+    ensures { verdict_number result ≡ order_broken n k own.now barriers stores partners.now dependents.now addresses.now writes.now rows.now }
 {
     if !one_order::rule11(rows, n, k) {
-        return 11;
+        return Err(Rule::StrictOrder);
     }
     if !by_columns::rule12(own, rows, columns, n, k) {
-        return 12;
+        return Err(Rule::OwnOrder);
     }
     if !orders::rule13(own, barriers, partners, dependents, rows, n, k) {
-        return 13;
+        return Err(Rule::ProgramOrder);
     }
     if !orders::rule14(rows, stores, partners, addresses, writes, n, k) {
-        return 14;
+        return Err(Rule::Coherence);
     }
-    0
+    Ok(())
 }
 
-// The lowest broken of rules 15 and 16, or 0.
+// The lowest broken of rules 15 and 16, if any.
 fn broken_value<'a>(
     judged: &'a [u64; Case::MOST_THREADS],
     seen: &'a [u64; Case::MOST_THREADS],
@@ -198,20 +257,20 @@ fn broken_value<'a>(
     columns: &'a [u64; Case::MOST_THREADS * Case::MOST_EVENTS],
     n: usize,
     k: usize,
-) -> u8
+) -> Result<(), Rule>
     requires { WithColumns n k rows.now columns.now }
-    ensures { result ≡ value_broken n k judged.now seen.now fresh stores partners.now values.now rows.now }
+    ensures { verdict_number result ≡ value_broken n k judged.now seen.now fresh stores partners.now values.now rows.now }
 {
     if !by_columns::rule15(judged, fresh, stores, partners, rows, columns, n, k) {
-        return 15;
+        return Err(Rule::EarlierStore);
     }
     if !by_columns::rule16(judged, seen, stores, partners, values, rows, columns, n, k) {
-        return 16;
+        return Err(Rule::LatestStore);
     }
-    0
+    Ok(())
 }
 
-// The lowest broken of rules 17 and 18, or 0, where rule 11 holds: if all threads' orders are alike, both do.
+// The lowest broken of rules 17 and 18, if any, where rule 11 holds: if all threads' orders are alike, both do.
 fn broken_barrier<'a>(
     own: &'a [u64; Case::MOST_THREADS],
     barriers: u64,
@@ -224,34 +283,34 @@ fn broken_barrier<'a>(
     columns: &'a [u64; Case::MOST_THREADS * Case::MOST_EVENTS],
     n: usize,
     k: usize,
-) -> u8
+) -> Result<(), Rule>
     requires with_columns { WithColumns n k rows.now columns.now }
     requires shared { Shared n k partners.now threads.now }
     requires le_n { 1 ≤ n }
     requires rows_value { may11 n k (order_in rows.now) (order_in rows.now) ≡ true }
-    ensures { result ≡ barrier_broken n k own.now barriers syncs stores loads partners.now threads.now rows.now }
+    ensures { verdict_number result ≡ barrier_broken n k own.now barriers syncs stores loads partners.now threads.now rows.now }
 {
     if one_order::alike(rows, n, k) {
-        return 0;
+        return Ok(());
     }
     let joined = one_order::joined(columns, n, k);
     if !by_columns::rule17(
         own, barriers, syncs, stores, loads, rows, columns, &joined, n, k,
     ) {
-        return 17;
+        return Err(Rule::Barrier);
     }
     if !by_columns::rule18(
         own, barriers, syncs, stores, loads, partners, threads, rows, columns, &joined, n, k,
     ) {
-        return 18;
+        return Err(Rule::CumulativeBarrier);
     }
-    0
+    Ok(())
 }
 
-// The lowest broken rule of the case, under PPCs if strong and else under PPCw, or 0.
-pub fn verdict(c: Case, strong: bool) -> u8
+// Under a model, the lowest broken rule of the case, if any.
+pub fn verdict(c: Case, model: Model) -> Result<(), Rule>
     requires { Sound c }
-    ensures { result ≡ verdict_of (case_of c) (model_of strong) }
+    ensures { verdict_number result ≡ verdict_of (case_of c) (model_of model) }
 {
     let n = c.threads;
     let k = c.events;
@@ -259,7 +318,7 @@ pub fn verdict(c: Case, strong: bool) -> u8
     let g = gather(&c.kind, &c.thread, &c.address, &c.from, &c.to, links, k);
     let mut columns = c.rows;
     columns::to_columns(&mut columns, n, k);
-    let x = broken_order(
+    broken_order(
         &g.own,
         g.barriers,
         g.stores,
@@ -271,14 +330,11 @@ pub fn verdict(c: Case, strong: bool) -> u8
         &columns,
         n,
         k,
-    );
-    if x != 0 {
-        return x;
-    }
+    )?;
     let seen = seen_sets(&c.rows, &columns, &g.own, n, k);
-    let judged = judged_sets(strong, g.loads, &g.own, &seen, n);
+    let judged = judged_sets(model, g.loads, &g.own, &seen, n);
     let fresh = fresh_loads(g.loads, &c.value, &c.address, &c.initial, k);
-    let y = broken_value(
+    broken_value(
         &judged,
         &seen,
         fresh,
@@ -289,10 +345,7 @@ pub fn verdict(c: Case, strong: bool) -> u8
         &columns,
         n,
         k,
-    );
-    if y != 0 {
-        return y;
-    }
+    )?;
     broken_barrier(
         &g.own,
         g.barriers,
