@@ -1,10 +1,17 @@
 -- The laws of the permutations. Each is for every label, and those that speak of a label count for every count.
 -- Assumes nothing.
-use mathlib.Core.Path.{◌≡◌, refl, sym, subst, ap, ◌∙◌, fun_ext}
+use mathlib.Core.Path.{◌≡◌, refl, sym, subst, ap, ap₂, ◌∙◌, fun_ext}
 use mathlib.Core.Bool.{Bool, true, false, ◌&&◌, ◌||◌, not, cond}
-use Prim.Native.Nat.{ℕ, suc, ◌+◌, ◌*◌, ◌<◌, ◌≤◌}
+use Prim.Native.Nat.{ℕ, zero, suc, ◌+◌, ◌*◌, ◌<◌, ◌≤◌, min}
+use native.Mathlib.Numerals.{add-one}
+use mathlib.Core.List.{[], ◌∷◌, ◌++◌}
+use Rattle.std.specs.List.{range_with_len, list_all}
+use Rattle.std.proofs.lemmas.List.{map-id}
+use Rattle.std.proofs.lemmas.List.FromFn.{map-range_with_len_more}
+use Rattle.std.proofs.lemmas.List.Folds.{list_all-append}
+use Rattle.std.proofs.Math.Nat.{min-eq_left, min-eq_right}
 use native.Mathlib.Omega.{arith}
-use native.Mathlib.Nat.{not-le_of_lt}
+use native.Mathlib.Nat.{not-le_of_lt, zero-add}
 use native.Mathlib.Decide.{dec_lt}
 use lib.Dec.{T, ltb, eqb, eqb→eq, eqb_refl, ltb→lt, lt→ltb, lit<, lit≤}
 use lib.ListN.{get_or-eq_default}
@@ -176,6 +183,32 @@ image_many q n hq l x h = near (dec_lt x labels)
 pub fits_many : (q n : ℕ) → q < permutations → labels ≤ n → fits q n ≡ true
 fits_many q n hq l = fits_yes q n hq (image_many q n hq l)
 
+-- so that no more than these have to be looked at
+pub fits_few : (q n : ℕ) → q < permutations → all (min n labels) (λ x. ltb (image q x) n) ≡ fits q n
+unfolding fits
+fits_few q n hq = by (dec_lt labels n)
+  where
+    by : Dec (labels < n) → all (min n labels) (λ x. ltb (image q x) n) ≡ (ltb q permutations && all n (λ x. ltb (image q x) n))
+    by (yes h) =
+        rw (min-eq_right {n = labels} {m = n} (omega arith))
+        (T_true (T-all labels (λ x. ltb (image q x) n) (λ x l. lt→ltb (image q x) n (image_many q n hq (omega arith) x (omega arith)))) ∙ sym (fits_many q n hq (omega arith)))
+    by (no d) = rw (min-eq_left {n = n} {m = labels} (omega arith), lt-ltb q permutations hq)
+
+-- a test of each number of a range is one of each below its end
+and-true : (y : Bool) → (y && true) ≡ y
+and-true true = refl
+and-true false = refl
+
+range-more : (n : ℕ) → range_with_len 0 (n + 1) ≡ range_with_len 0 n ++ (n ∷ [])
+range-more n = rw (map-id (range_with_len 0 (n + 1)), map-id (range_with_len 0 n)) at (map-range_with_len_more (λ (x : ℕ). x) 0 n n (zero-add n))
+
+pub all-range : (n : ℕ) (f : ℕ → Bool) → list_all f (range_with_len 0 n) ≡ all n f
+unfolding all
+all-range zero f = refl
+all-range (suc n) f =
+    ap (λ (j : ℕ). list_all f (range_with_len 0 j)) (sym (add-one n)) ∙ ap (list_all f) (range-more n) ∙ list_all-append f (range_with_len 0 n) (n ∷ [])
+    ∙ ap₂ ◌&&◌ (all-range n f) (and-true (f n))
+
 module _ (q n : ℕ) (f : T (fits q n)) where
   pub fits_below : q < permutations
   unfolding fits
@@ -275,6 +308,14 @@ image_label q x h = by (dec_lt q permutations)
     by : Dec (q < permutations) → image q x < labels
     by (yes l) = image_below q l x h
     by (no d) = let e = image_none q x (omega arith) in omega arith
+
+-- and a label that is a byte goes to one
+pub image_byte : (q x : ℕ) → x < 256 → image q x < 256
+image_byte q x h = near (dec_lt x labels)
+  where
+    near : Dec (x < labels) → image q x < 256
+    near (yes l) = let i = image_label q x l in omega arith
+    near (no d) = let e = image_far q x (omega arith) in omega arith
 
 -- being below n is a test of the image too
 pub fits-ltb : (q n : ℕ) → T (fits q n) → (x : ℕ) → ltb (image q x) n ≡ ltb x n

@@ -9,75 +9,131 @@ pub const LABELS: usize = 4;
 
 pub const PERMUTATIONS: usize = 24;
 
-// The words one after the other: to which label each permutation sends 0, 1, 2 and 3.
-const WORDS: [u8; PERMUTATIONS * LABELS] = *b"\
-    \x00\x01\x02\x03\x00\x01\x03\x02\x00\x02\x01\x03\x00\x02\x03\x01\x00\x03\x01\x02\x00\x03\x02\x01\
-    \x01\x00\x02\x03\x01\x00\x03\x02\x01\x02\x00\x03\x01\x02\x03\x00\x01\x03\x00\x02\x01\x03\x02\x00\
-    \x02\x00\x01\x03\x02\x00\x03\x01\x02\x01\x00\x03\x02\x01\x03\x00\x02\x03\x00\x01\x02\x03\x01\x00\
-    \x03\x00\x01\x02\x03\x00\x02\x01\x03\x01\x00\x02\x03\x01\x02\x00\x03\x02\x00\x01\x03\x02\x01\x00";
+// By q: to which label it sends 0, 1, 2 and 3.
+const WORDS: [[u8; LABELS]; PERMUTATIONS] = [
+    [0, 1, 2, 3],
+    [0, 1, 3, 2],
+    [0, 2, 1, 3],
+    [0, 2, 3, 1],
+    [0, 3, 1, 2],
+    [0, 3, 2, 1],
+    [1, 0, 2, 3],
+    [1, 0, 3, 2],
+    [1, 2, 0, 3],
+    [1, 2, 3, 0],
+    [1, 3, 0, 2],
+    [1, 3, 2, 0],
+    [2, 0, 1, 3],
+    [2, 0, 3, 1],
+    [2, 1, 0, 3],
+    [2, 1, 3, 0],
+    [2, 3, 0, 1],
+    [2, 3, 1, 0],
+    [3, 0, 1, 2],
+    [3, 0, 2, 1],
+    [3, 1, 0, 2],
+    [3, 1, 2, 0],
+    [3, 2, 0, 1],
+    [3, 2, 1, 0],
+];
 
 // By q, a line each, and r: first q, then r.
-const COMPOSITE: [u8; PERMUTATIONS * PERMUTATIONS] = *b"\
-    \x00\x01\x02\x03\x04\x05\x06\x07\x08\x09\x0a\x0b\x0c\x0d\x0e\x0f\x10\x11\x12\x13\x14\x15\x16\x17\
-    \x01\x00\x03\x02\x05\x04\x07\x06\x09\x08\x0b\x0a\x0d\x0c\x0f\x0e\x11\x10\x13\x12\x15\x14\x17\x16\
-    \x02\x04\x00\x05\x01\x03\x08\x0a\x06\x0b\x07\x09\x0e\x10\x0c\x11\x0d\x0f\x14\x16\x12\x17\x13\x15\
-    \x03\x05\x01\x04\x00\x02\x09\x0b\x07\x0a\x06\x08\x0f\x11\x0d\x10\x0c\x0e\x15\x17\x13\x16\x12\x14\
-    \x04\x02\x05\x00\x03\x01\x0a\x08\x0b\x06\x09\x07\x10\x0e\x11\x0c\x0f\x0d\x16\x14\x17\x12\x15\x13\
-    \x05\x03\x04\x01\x02\x00\x0b\x09\x0a\x07\x08\x06\x11\x0f\x10\x0d\x0e\x0c\x17\x15\x16\x13\x14\x12\
-    \x06\x07\x0c\x0d\x12\x13\x00\x01\x0e\x0f\x14\x15\x02\x03\x08\x09\x16\x17\x04\x05\x0a\x0b\x10\x11\
-    \x07\x06\x0d\x0c\x13\x12\x01\x00\x0f\x0e\x15\x14\x03\x02\x09\x08\x17\x16\x05\x04\x0b\x0a\x11\x10\
-    \x08\x0a\x0e\x10\x14\x16\x02\x04\x0c\x11\x12\x17\x00\x05\x06\x0b\x13\x15\x01\x03\x07\x09\x0d\x0f\
-    \x09\x0b\x0f\x11\x15\x17\x03\x05\x0d\x10\x13\x16\x01\x04\x07\x0a\x12\x14\x00\x02\x06\x08\x0c\x0e\
-    \x0a\x08\x10\x0e\x16\x14\x04\x02\x11\x0c\x17\x12\x05\x00\x0b\x06\x15\x13\x03\x01\x09\x07\x0f\x0d\
-    \x0b\x09\x11\x0f\x17\x15\x05\x03\x10\x0d\x16\x13\x04\x01\x0a\x07\x14\x12\x02\x00\x08\x06\x0e\x0c\
-    \x0c\x12\x06\x13\x07\x0d\x0e\x14\x00\x15\x01\x0f\x08\x16\x02\x17\x03\x09\x0a\x10\x04\x11\x05\x0b\
-    \x0d\x13\x07\x12\x06\x0c\x0f\x15\x01\x14\x00\x0e\x09\x17\x03\x16\x02\x08\x0b\x11\x05\x10\x04\x0a\
-    \x0e\x14\x08\x16\x0a\x10\x0c\x12\x02\x17\x04\x11\x06\x13\x00\x15\x05\x0b\x07\x0d\x01\x0f\x03\x09\
-    \x0f\x15\x09\x17\x0b\x11\x0d\x13\x03\x16\x05\x10\x07\x12\x01\x14\x04\x0a\x06\x0c\x00\x0e\x02\x08\
-    \x10\x16\x0a\x14\x08\x0e\x11\x17\x04\x12\x02\x0c\x0b\x15\x05\x13\x00\x06\x09\x0f\x03\x0d\x01\x07\
-    \x11\x17\x0b\x15\x09\x0f\x10\x16\x05\x13\x03\x0d\x0a\x14\x04\x12\x01\x07\x08\x0e\x02\x0c\x00\x06\
-    \x12\x0c\x13\x06\x0d\x07\x14\x0e\x15\x00\x0f\x01\x16\x08\x17\x02\x09\x03\x10\x0a\x11\x04\x0b\x05\
-    \x13\x0d\x12\x07\x0c\x06\x15\x0f\x14\x01\x0e\x00\x17\x09\x16\x03\x08\x02\x11\x0b\x10\x05\x0a\x04\
-    \x14\x0e\x16\x08\x10\x0a\x12\x0c\x17\x02\x11\x04\x13\x06\x15\x00\x0b\x05\x0d\x07\x0f\x01\x09\x03\
-    \x15\x0f\x17\x09\x11\x0b\x13\x0d\x16\x03\x10\x05\x12\x07\x14\x01\x0a\x04\x0c\x06\x0e\x00\x08\x02\
-    \x16\x10\x14\x0a\x0e\x08\x17\x11\x12\x04\x0c\x02\x15\x0b\x13\x05\x06\x00\x0f\x09\x0d\x03\x07\x01\
-    \x17\x11\x15\x0b\x0f\x09\x16\x10\x13\x05\x0d\x03\x14\x0a\x12\x04\x07\x01\x0e\x08\x0c\x02\x06\x00";
+const COMPOSITE: [[u8; PERMUTATIONS]; PERMUTATIONS] = [
+    [
+        0, 1, 2, 3, 4, 5, 6, 7, 8, 9, 10, 11, 12, 13, 14, 15, 16, 17, 18, 19, 20, 21, 22, 23,
+    ],
+    [
+        1, 0, 3, 2, 5, 4, 7, 6, 9, 8, 11, 10, 13, 12, 15, 14, 17, 16, 19, 18, 21, 20, 23, 22,
+    ],
+    [
+        2, 4, 0, 5, 1, 3, 8, 10, 6, 11, 7, 9, 14, 16, 12, 17, 13, 15, 20, 22, 18, 23, 19, 21,
+    ],
+    [
+        3, 5, 1, 4, 0, 2, 9, 11, 7, 10, 6, 8, 15, 17, 13, 16, 12, 14, 21, 23, 19, 22, 18, 20,
+    ],
+    [
+        4, 2, 5, 0, 3, 1, 10, 8, 11, 6, 9, 7, 16, 14, 17, 12, 15, 13, 22, 20, 23, 18, 21, 19,
+    ],
+    [
+        5, 3, 4, 1, 2, 0, 11, 9, 10, 7, 8, 6, 17, 15, 16, 13, 14, 12, 23, 21, 22, 19, 20, 18,
+    ],
+    [
+        6, 7, 12, 13, 18, 19, 0, 1, 14, 15, 20, 21, 2, 3, 8, 9, 22, 23, 4, 5, 10, 11, 16, 17,
+    ],
+    [
+        7, 6, 13, 12, 19, 18, 1, 0, 15, 14, 21, 20, 3, 2, 9, 8, 23, 22, 5, 4, 11, 10, 17, 16,
+    ],
+    [
+        8, 10, 14, 16, 20, 22, 2, 4, 12, 17, 18, 23, 0, 5, 6, 11, 19, 21, 1, 3, 7, 9, 13, 15,
+    ],
+    [
+        9, 11, 15, 17, 21, 23, 3, 5, 13, 16, 19, 22, 1, 4, 7, 10, 18, 20, 0, 2, 6, 8, 12, 14,
+    ],
+    [
+        10, 8, 16, 14, 22, 20, 4, 2, 17, 12, 23, 18, 5, 0, 11, 6, 21, 19, 3, 1, 9, 7, 15, 13,
+    ],
+    [
+        11, 9, 17, 15, 23, 21, 5, 3, 16, 13, 22, 19, 4, 1, 10, 7, 20, 18, 2, 0, 8, 6, 14, 12,
+    ],
+    [
+        12, 18, 6, 19, 7, 13, 14, 20, 0, 21, 1, 15, 8, 22, 2, 23, 3, 9, 10, 16, 4, 17, 5, 11,
+    ],
+    [
+        13, 19, 7, 18, 6, 12, 15, 21, 1, 20, 0, 14, 9, 23, 3, 22, 2, 8, 11, 17, 5, 16, 4, 10,
+    ],
+    [
+        14, 20, 8, 22, 10, 16, 12, 18, 2, 23, 4, 17, 6, 19, 0, 21, 5, 11, 7, 13, 1, 15, 3, 9,
+    ],
+    [
+        15, 21, 9, 23, 11, 17, 13, 19, 3, 22, 5, 16, 7, 18, 1, 20, 4, 10, 6, 12, 0, 14, 2, 8,
+    ],
+    [
+        16, 22, 10, 20, 8, 14, 17, 23, 4, 18, 2, 12, 11, 21, 5, 19, 0, 6, 9, 15, 3, 13, 1, 7,
+    ],
+    [
+        17, 23, 11, 21, 9, 15, 16, 22, 5, 19, 3, 13, 10, 20, 4, 18, 1, 7, 8, 14, 2, 12, 0, 6,
+    ],
+    [
+        18, 12, 19, 6, 13, 7, 20, 14, 21, 0, 15, 1, 22, 8, 23, 2, 9, 3, 16, 10, 17, 4, 11, 5,
+    ],
+    [
+        19, 13, 18, 7, 12, 6, 21, 15, 20, 1, 14, 0, 23, 9, 22, 3, 8, 2, 17, 11, 16, 5, 10, 4,
+    ],
+    [
+        20, 14, 22, 8, 16, 10, 18, 12, 23, 2, 17, 4, 19, 6, 21, 0, 11, 5, 13, 7, 15, 1, 9, 3,
+    ],
+    [
+        21, 15, 23, 9, 17, 11, 19, 13, 22, 3, 16, 5, 18, 7, 20, 1, 10, 4, 12, 6, 14, 0, 8, 2,
+    ],
+    [
+        22, 16, 20, 10, 14, 8, 23, 17, 18, 4, 12, 2, 21, 11, 19, 5, 6, 0, 15, 9, 13, 3, 7, 1,
+    ],
+    [
+        23, 17, 21, 11, 15, 9, 22, 16, 19, 5, 13, 3, 20, 10, 18, 4, 7, 1, 14, 8, 12, 2, 6, 0,
+    ],
+];
 
 // By q, the permutation that takes it back.
-const INVERSE: [u8; PERMUTATIONS] = *b"\
-    \x00\x01\x02\x04\x03\x05\x06\x07\x0c\x12\x0d\x13\x08\x0a\x0e\x14\x10\x16\x09\x0b\x0f\x15\x11\x17";
-
-fn wide(x: u8) -> usize
-    ensures { result ≡ x }
-{
-    x as usize
-}
+const INVERSE: [u8; PERMUTATIONS] = [
+    0, 1, 2, 4, 3, 5, 6, 7, 12, 18, 13, 19, 8, 10, 14, 20, 16, 22, 9, 11, 15, 21, 17, 23,
+];
 
 // The label to which q sends x. A number that is no permutation's moves nothing, and no label past the last is moved.
 pub fn image(q: usize, x: usize) -> usize
     ensures { result ≡ image_of q x }
 {
-    if LABELS <= x {
-        return x;
+    if q < PERMUTATIONS && x < LABELS {
+        usize::from(WORDS[q][x])
+    } else {
+        x
     }
-    if PERMUTATIONS <= q {
-        return x;
-    }
-    wide(WORDS[q * LABELS + x])
 }
 
 // The same of a label that is a byte.
 pub fn image8(q: usize, x: u8) -> u8
     ensures { result ≡ image_of q x }
 {
-    let y = wide(x);
-    if LABELS <= y {
-        return x;
-    }
-    if PERMUTATIONS <= q {
-        return x;
-    }
-    WORDS[q * LABELS + y]
+    image(q, usize::from(x)) as u8
 }
 
 // The permutation number q, or 0 for any other.
@@ -91,16 +147,13 @@ fn known(q: usize) -> usize
 pub fn composite(q: usize, r: usize) -> usize
     ensures { result ≡ composite_of q r }
 {
-    let a = known(q);
-    let b = known(r);
-    wide(COMPOSITE[a * PERMUTATIONS + b])
+    usize::from(COMPOSITE[known(q)][known(r)])
 }
 
 pub fn inverse(q: usize) -> usize
     ensures { result ≡ inverse_of q }
 {
-    let a = known(q);
-    wide(INVERSE[a])
+    usize::from(INVERSE[known(q)])
 }
 
 // Whether q is a permutation number that maps the labels below n onto themselves. Past its four labels it moves nothing, so that
@@ -108,18 +161,5 @@ pub fn inverse(q: usize) -> usize
 pub fn fits(q: usize, n: usize) -> bool
     ensures { result ≡ fits_of q n }
 {
-    if PERMUTATIONS <= q {
-        return false;
-    }
-    if LABELS <= n {
-        return true;
-    }
-    let mut x = 0;
-    while x < n {
-        if n <= image(q, x) {
-            return false;
-        }
-        x += 1;
-    }
-    true
+    q < PERMUTATIONS && (0..n.min(LABELS)).all(|x| image(q, x) < n)
 }
