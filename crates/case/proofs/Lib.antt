@@ -1,5 +1,7 @@
 pub mod Events
+pub mod Numbers
 pub mod Faults
+pub mod Chains
 pub mod Bounds
 pub mod Tested
 pub mod WriteOrders

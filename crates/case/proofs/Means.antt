@@ -6,10 +6,10 @@ use mathlib.Core.Bool.{Bool, true, false, not, ◌&&◌, false≢true}
 use mathlib.Core.List.{List, [], ◌∷◌, ◌++◌}
 use lib.Dec.{eqb, leb, ltb}
 use lib.ListN.{length, get_or}
-use borrow.Author.Tests.{eqb-true, leb-true, ltb-true, le-leb, lt-leb, not-true, not-false}
+use borrow.Author.Tests.{eqb-true, ltb-true, le-leb, lt-leb}
 use Rattle.finite.specs.Tests.{all, count}
 use Rattle.finite.specs.Lists.{table}
-use Rattle.finite.proofs.Tests.{and_r, is_false, count_same}
+use Rattle.finite.proofs.Tests.{is_false, count_same}
 use Rattle.finite.proofs.Lists.{table_get, table_same, table-length}
 use Rattle.model.specs.Limits.{between, least_edition, most_edition, most_threads, most_addresses, most_events, most_dependencies, most_value, most_name}
 use Rattle.model.specs.Case.{Event, Dependency, no_event, store, bare, printable}
@@ -120,29 +120,26 @@ module _ (c : Held) where
 
   -- the ways through `fault`
   module _ (h : Bool) (eh : h ≡ head) where
-    pub bad_head : not h ≡ true → 3 ≡ fault (case_of c)
-    bad_head th = rw (fault_by, ← eh, not-true h th)
+    pub bad_head : h ≡ false → 3 ≡ fault (case_of c)
+    bad_head th = rw (fault_by, ← eh, th)
 
-    pub few-addresses : not h ≡ false → c.addresses ≤ most_addresses
-    few-addresses th = leb-true _ _ (and_r (leb 1 c.addresses) _ (and_r (between 1 most_threads c.threads) _ (and_r (between least_edition most_edition c.edition) _ (sym eh ∙ not-false h th))))
+    module _ (th : h ≡ true) (i : Bool) (ei : i ≡ initials) where
+      pub bad_initial : i ≡ false → 3 ≡ fault (case_of c)
+      bad_initial ti = rw (fault_by, ← eh, th, ← ei, ti)
 
-    module _ (th : not h ≡ false) (i : Bool) (ei : i ≡ initials) where
-      pub bad_initial : not i ≡ true → 3 ≡ fault (case_of c)
-      bad_initial ti = rw (fault_by, ← eh, not-false h th, ← ei, not-true i ti)
-
-      module _ (ti : not i ≡ false) where
+      module _ (ti : i ≡ true) where
         pub many_events : most_events < c.events → 3 ≡ fault (case_of c)
-        many_events k = rw (fault_by, ← eh, not-false h th, ← ei, not-false i ti, lt-leb c.events most_events k)
+        many_events k = rw (fault_by, ← eh, th, ← ei, ti, lt-leb c.events most_events k)
 
         module _ (k : c.events ≤ most_events) (l : Bool) (el : l ≡ listing) where
-          pub bad_listing : not l ≡ true → 3 ≡ fault (case_of c)
-          bad_listing tl = rw (fault_by, ← eh, not-false h th, ← ei, not-false i ti, le-leb c.events most_events k, ← el, not-true l tl)
+          pub bad_listing : l ≡ false → 3 ≡ fault (case_of c)
+          bad_listing tl = rw (fault_by, ← eh, th, ← ei, ti, le-leb c.events most_events k, ← el, tl)
 
-          module _ (tl : not l ≡ false) (v : ℕ) (ev : v ≡ links_fault c) where
+          module _ (tl : l ≡ true) (v : ℕ) (ev : v ≡ links_fault c) where
             from_orders : fault (case_of c) ≡ first_fault v (first_fault orders name)
             unfolding links_fault
             from_orders =
-                rw (fault_by, ← eh, not-false h th, ← ei, not-false i ti, le-leb c.events most_events k, ← el, not-false l tl, ev)
+                rw (fault_by, ← eh, th, ← ei, ti, le-leb c.events most_events k, ← el, tl, ev)
                 (else_first (leb count_links most_dependencies) links _)
 
             pub bad_links : (v ≡ 0 → ⊥) → v ≡ fault (case_of c)
@@ -180,8 +177,8 @@ module _ (j : ℕ) (byte : ℕ → ℕ) where
     unfolding name_fault
     short-name = rw (table-length 0 j byte, le-leb j most_name l, every-table printable j byte, e)
 
-    pub bad-name : not t ≡ true → 23 ≡ name_fault (table 0 j byte)
-    bad-name n = rw (short-name, not-true t n)
+    pub bad-name : t ≡ false → 23 ≡ name_fault (table 0 j byte)
+    bad-name n = rw (short-name, n)
 
-    pub good_name : not t ≡ false → 0 ≡ name_fault (table 0 j byte)
-    good_name n = rw (short-name, not-false t n)
+    pub good_name : t ≡ true → 0 ≡ name_fault (table 0 j byte)
+    good_name n = rw (short-name, n)

@@ -8,16 +8,17 @@ use mathlib.Core.Bool.{Bool, true, false, not, ◌&&◌, ◌||◌}
 use mathlib.Core.List.{List, [], ◌∷◌, ◌++◌}
 use lib.Dec.{eqb, ltb}
 use lib.Bits.{bit_or}
-use lib.ListN.{get_or}
-use borrow.Author.Tests.{lt-ltb, le-ltb, eq-eqb, ne_eqb, not-true, not-false}
+use lib.ListN.{length, get_or}
+use borrow.Rule.Slice.PartMut.{mid_of, mid_len}
+use Rattle.std.proofs.lemmas.List.{get_or-take, get_or-drop}
+use borrow.Author.Tests.{lt-ltb, le-ltb}
 use Rattle.finite.specs.Tests.{count}
 use Rattle.finite.specs.Lists.{table}
 use Rattle.finite.proofs.Tests.{or_false, count-le}
 use Rattle.finite.proofs.Lists.{table_more, table_turn, table-end}
 use Rattle.bits.specs.Bit.{bit}
 use Rattle.bits.proofs.Bits.{bit-zero, bit_with}
-use Rattle.model.specs.Limits.{most_events}
-use Rattle.model.specs.Case.{store}
+use Rattle.model.specs.Limits.{most_addresses, most_events}
 use Rattle.model.specs.Rules.{or_else}
 use Rattle.model.specs.Record.{member}
 use Rattle.model.specs.Fault.{first_fault, write_fault, writes_fault}
@@ -32,22 +33,6 @@ member-snoc j (y ∷ xs) v = go (eqb j y) (member-snoc j xs v)
     go : (b : Bool) → member j (xs ++ (v ∷ [])) ≡ (member j xs || eqb j v) → (b || member j (xs ++ (v ∷ []))) ≡ ((b || member j xs) || eqb j v)
     go true h = refl
     go false h = h
-
--- ---- whether an event is a store
-module _ (ks as' : List ℕ) (x : ℕ) where
-  pub is_store : (e w : ℕ) → w ≡ get_or as' e 0 → get_or ks e 0 ≡ store → eqb w x ≡ store_at ks as' x e
-  unfolding store_at
-  is_store e w ew k = rw (ew, eq-eqb _ _ k)
-
-  pub no-store : (e : ℕ) → (get_or ks e 0 ≡ store → ⊥) → false ≡ store_at ks as' x e
-  unfolding store_at
-  no-store e k = rw (ne_eqb _ _ k)
-
-  pub not_listed : (e listed : ℕ) (t b : Bool) → t ≡ store_at ks as' x e → t ≡ true → b ≡ bit listed e → not b ≡ (store_at ks as' x e && not (bit listed e))
-  not_listed e listed t b et y eb = rw (← et, y, ← eb)
-
-  pub not_mine : (e listed : ℕ) (t : Bool) → t ≡ store_at ks as' x e → t ≡ false → false ≡ (store_at ks as' x e && not (bit listed e))
-  not_mine e listed t et y = rw (← et, y)
 
 -- ---- the fault of one write order: the entries below i passed, and listed are those
 module _ (k : ℕ) (mine : ℕ → Bool) (f : ℕ → ℕ) (n : ℕ) where
@@ -76,15 +61,15 @@ module _ (k : ℕ) (mine : ℕ → Bool) (f : ℕ → ℕ) (n : ℕ) where
       no-event g = rw (le-ltb e k g) at here
 
       module _ (g : e < k) (r : Bool) (er : r ≡ (mine e && not (bit listed e))) where
-        pub not-unlisted : not r ≡ true → 4 ≡ write_fault k mine [] (table 0 n f)
-        not-unlisted t = rw (lt-ltb e k g, ← er, not-true r t) at here
+        pub not-unlisted : r ≡ false → 4 ≡ write_fault k mine [] (table 0 n f)
+        not-unlisted t = rw (lt-ltb e k g, ← er, t) at here
 
-        pub one-listed : (listed' : ℕ) → listed' ≡ bit_or listed (2 ^ e) → not r ≡ false → Listing listed' (i + 1)
+        pub one-listed : (listed' : ℕ) → listed' ≡ bit_or listed (2 ^ e) → r ≡ true → Listing listed' (i + 1)
         one-listed listed' el t = record {
           within = omega arith;
           marked = λ j. ap (λ (s : ℕ). bit s j) el ∙ bit_with listed e j ∙ ap (λ (b : Bool). b || eqb j e) (L.marked j)
               ∙ ap (λ (v : ℕ). member j (table 0 i f) || eqb j v) ee ∙ sym (member-snoc j (table 0 i f) (f i)) ∙ ap (member j) (sym (table_more i f));
-          same = rw (lt-ltb e k g, ← er, not-false r t) at here;
+          same = rw (lt-ltb e k g, ← er, t) at here;
         }
 
 -- the write order of x has as many entries as there are stores to x
@@ -95,6 +80,20 @@ pub of_order : (ks as' ws : List ℕ) (k x n r : ℕ) → n ≡ count k (store_a
     → r ≡ write_fault k (store_at ks as' x) [] (table 0 n (entry ws x)) → r ≡ write_fault k (store_at ks as' x) [] (writes_at ks as' ws k x)
 unfolding writes_at
 of_order ks as' ws k x n r e h = rw e at h
+
+-- the part of the write orders that is that of x
+module _ (ws : List ℕ) (x n : ℕ) (size : length ws ≡ most_addresses * most_events) (hx : x < most_addresses) (hn : n ≤ most_events) where
+  abbrev pub part : List ℕ
+  part = mid_of (x * most_events) (x * most_events + n - x * most_events) ws
+
+  pub part_fits : x * most_events + n ≤ length ws
+  part_fits = omega arith
+
+  pub part_length : length part ≡ n
+  part_length = mid_len (x * most_events) (x * most_events + n) ws part_fits ∙ omega arith
+
+  pub part_get : (i e : ℕ) → e ≡ get_or part i 0 → i < length part → e ≡ entry ws x i
+  part_get i e h l = h ∙ get_or-take _ _ i 0 (omega (arith, part_length)) ∙ get_or-drop (x * most_events) ws i 0
 
 pub few-stores : (k n : ℕ) (f : ℕ → Bool) → k ≤ most_events → n ≡ count k f → n ≤ most_events
 few-stores k n f h e = omega (arith, count-le k f)

@@ -1,18 +1,23 @@
 -- The case that a struct means, and the struct that holds a case.
 -- Assumes nothing.
-use Rattle.std.specs.Prelude.{ℕ, ◌+◌, ◌-◌, ◌*◌, ◌%◌, ◌^◌, Bool, cond, List, [], ◌∷◌, ◌++◌, map, leb, length, get_or, replicate}
+use Rattle.std.specs.Prelude.{ℕ, ◌+◌, ◌-◌, ◌*◌, ◌%◌, ◌^◌, ◌≤◌, ◌<◌, Bool, cond, List, [], ◌∷◌, ◌++◌, map, leb, length, get_or, replicate}
 use Rattle.finite.specs.Tests.{count}
 use Rattle.finite.specs.Lists.{table}
 use Rattle.model.specs.Limits.{second, most_threads, most_addresses, most_events, most_dependencies, most_name}
-use Rattle.model.specs.Case.{Case, Event, Dependency, bare}
+use Rattle.model.specs.Case.{Case, Event, Dependency, bare, most_class}
 use Rattle.model.specs.Rules.{or_else}
 use Rattle.model.specs.Record.{dependency_good, store_to}
 use Rattle.model.specs.Fault.{dependency_fault}
 use Rattle.case.specs.declared.Case.{Case as Held}
+use Rattle.case.specs.declared.Link.{Link}
 
 -- a bare kind's address and value are not looked at (01: "a sync's address and value .. the writer ignores what stands there")
 unfoldable pub event_of : (kind thread address value : ℕ) → Event
 event_of k t a v = cond (bare k) (record { kind = k; thread = t; address = 0; value = 0 }) (record { kind = k; thread = t; address = a; value = v })
+
+-- event e of a struct
+abbrev pub event_at : Held → ℕ → Event
+event_at c e = event_of (get_or c.kind e 0) (get_or c.thread e 0) (get_or c.address e 0) (get_or c.value e 0)
 
 -- by the arrays of kinds, threads, addresses and values
 unfoldable pub events_of : (k : ℕ) (kinds threads addresses values : List ℕ) → List Event
@@ -25,6 +30,15 @@ link_count edition i = cond (second edition) i 0
 -- a dependency by its three numbers; link is short for a dependency in the names of code and proofs
 abbrev pub link : (class from to : ℕ) → Dependency
 link x a b = record { class = x; from = a; to = b }
+
+abbrev pub link_of : Link → Dependency
+link_of l = link l.class l.from l.to
+
+-- its class is one, and its events are among k
+pub record Among (k : ℕ) (l : Link) : Type 0 where
+  pub class : l.class ≤ most_class
+  pub from : l.from < k
+  pub to : l.to < k
 
 -- i dependencies, by the arrays of classes and of the events that they go from and to
 unfoldable pub links_of : (i : ℕ) (classes froms tos : List ℕ) → List Dependency

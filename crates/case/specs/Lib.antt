@@ -1,3 +1,4 @@
+pub mod Faults
 pub mod Held
 pub mod Sound
 pub mod Stores

@@ -10,8 +10,11 @@ ghost use Rattle.model.specs.Case.{bare as bare_kind, most_kind, store, by_addre
 ghost use Rattle.model.specs.Record.{dependency_rank};
 ghost use Rattle.model.specs.Fault.{event_good, dependency_within, dependency_fault, write_fault, writes_fault, name_fault, fault as fault_of};
 ghost use Rattle.model.specs.Bound.{most_bytes};
-ghost use Rattle.case.specs.Held.{event_of, link_count, link, links_of, good_at, links_fault, case_of, empty_case};
+ghost use Rattle.case.specs.Held.{event_at, link_count, link, link_of, Among, links_of, good_at, links_fault, case_of, empty_case};
+ghost use Rattle.case.specs.Faults.{fault_number};
 ghost use Rattle.case.specs.Stores.{store_at, writes_at};
+
+use number::Fault;
 
 // Its fields and their order are those of litmus_case in include/litmus.h.
 #[repr(C)]
@@ -156,112 +159,137 @@ pub fn link_count(edition: usize, dependencies: usize) -> usize
 fn within(v: usize, least: usize, most: usize) -> bool
     ensures { result ≡ between least most v }
 {
-    if least <= v {
-        return v <= most;
-    }
-    false
+    least <= v && v <= most
 }
 
 // Whether edition, threads and addresses are in their ranges.
-fn head_good(edition: usize, threads: usize, addresses: usize) -> bool
-    ensures { result ≡ (between least_edition most_edition edition && (between 1 most_threads threads && between 1 most_addresses addresses)) }
+fn head_good(c: &Case) -> bool
+    ensures { result ≡ (between least_edition most_edition c.now.edition && (between 1 most_threads c.now.threads && between 1 most_addresses c.now.addresses)) }
 {
-    if within(edition, Case::LEAST_EDITION, Case::MOST_EDITION) {
-        if within(threads, 1, Case::MOST_THREADS) {
-            return within(addresses, 1, Case::MOST_ADDRESSES);
-        }
-    }
-    false
+    within(c.edition, Case::LEAST_EDITION, Case::MOST_EDITION)
+        && within(c.threads, 1, Case::MOST_THREADS)
+        && within(c.addresses, 1, Case::MOST_ADDRESSES)
 }
 
 // Whether the initial values are in their range.
-fn initials_good(initial: &[u32; Case::MOST_ADDRESSES], addresses: usize) -> bool
-    requires { addresses ≤ most_addresses }
-    ensures { result ≡ all addresses (λ x. leb (get_or initial.now x 0) most_value) }
+fn initials_good(c: &Case) -> bool
+    requires { c.now.addresses ≤ most_addresses }
+    ensures { result ≡ all c.now.addresses (λ x. leb (get_or c.now.initial x 0) most_value) }
 {
-    let mut x: usize = 0;
-    while x < addresses {
-        if initial[x] > Case::MOST_VALUE {
-            return false;
-        }
-        x += 1;
-    }
-    true
-}
-
-fn wide(x: u8) -> usize
-    ensures { result ≡ x }
-{
-    x as usize
+    c.initial[..c.addresses]
+        .iter()
+        .all(|&v| v <= Case::MOST_VALUE)
 }
 
 // Whether a name may hold the byte.
 pub fn printable(b: u8) -> bool
     ensures { result ≡ printable_byte b }
 {
-    within(wide(b), Case::LEAST_PRINTABLE, Case::MOST_PRINTABLE)
+    within(usize::from(b), Case::LEAST_PRINTABLE, Case::MOST_PRINTABLE)
 }
 
 // Whether events of the kind have neither address nor value.
 pub fn bare(kind: u8) -> bool
     ensures { result ≡ bare_kind kind }
 {
-    if kind == Case::SYNC {
-        true
-    } else {
-        kind == Case::LWSYNC
-    }
+    kind == Case::SYNC || kind == Case::LWSYNC
 }
 
-// Whether an event of a case of the edition with so many threads and addresses has its numbers in their ranges.
-fn event_good(
-    kind: u8,
-    thread: u8,
-    address: u8,
-    value: u32,
-    edition: usize,
-    threads: usize,
-    addresses: usize,
-) -> bool
-    ensures { result ≡ event_good edition threads addresses (event_of kind thread address value) }
+// Whether event e has its numbers in their ranges.
+fn event_good(c: &Case, e: usize) -> bool
+    requires { e < most_events }
+    ensures { result ≡ event_good c.now.edition c.now.threads c.now.addresses (event_at c.now e) }
 {
-    if kind <= most_kind(edition) {
-        if wide(thread) < threads {
-            if bare(kind) {
-                return true;
-            }
-            if wide(address) < addresses {
-                return value <= Case::MOST_VALUE;
-            }
-        }
-    }
-    false
+    let kind = c.kind[e];
+    kind <= most_kind(c.edition)
+        && usize::from(c.thread[e]) < c.threads
+        && (bare(kind) || usize::from(c.address[e]) < c.addresses && c.value[e] <= Case::MOST_VALUE)
 }
 
-// Whether the first k events are good.
-fn events_good<'a>(
-    kinds: &'a [u8; Case::MOST_EVENTS],
-    owners: &'a [u8; Case::MOST_EVENTS],
-    targets: &'a [u8; Case::MOST_EVENTS],
-    values: &'a [u32; Case::MOST_EVENTS],
-    edition: usize,
-    threads: usize,
-    addresses: usize,
-    k: usize,
-) -> bool
-    requires { k ≤ most_events }
-    ensures { result ≡ all k (λ e. event_good edition threads addresses (event_of (get_or kinds.now e 0) (get_or owners.now e 0) (get_or targets.now e 0) (get_or values.now e 0))) }
+// Whether the events are good.
+fn events_good(c: &Case) -> bool
+    requires { c.now.events ≤ most_events }
+    ensures { result ≡ all c.now.events (λ e. event_good c.now.edition c.now.threads c.now.addresses (event_at c.now e)) }
 {
-    let mut e: usize = 0;
-    while e < k {
-        if !event_good(
-            kinds[e], owners[e], targets[e], values[e], edition, threads, addresses,
-        ) {
-            return false;
-        }
-        e += 1;
+    (0..c.events).all(|e| event_good(c, e))
+}
+
+// A dependency: its class and the events that it goes from and to.
+#[derive(Clone, Copy, Debug, PartialEq, Eq)]
+pub struct Link {
+    pub class: usize,
+    pub from: usize,
+    pub to: usize,
+}
+
+impl Link {
+    // Whether class and events are in their ranges, among k events.
+    fn is_within(self, k: usize) -> bool
+        ensures { result ≡ dependency_within k (link_of self) }
+    {
+        self.class <= Case::MOST_CLASS && self.from < k && self.to < k
     }
-    true
+
+    // Its rank among k events: by the event it goes from, the one it goes to, and its class.
+    pub fn rank(self, k: usize) -> usize
+        requires k_le_most_events { k ≤ most_events }
+        requires among { Among k self }
+        ensures { result ≡ dependency_rank k (link_of self) }
+    {
+        (self.from * k + self.to) * (Case::MOST_CLASS + 1) + self.class
+    }
+
+    // Whether it is good: from a load to a load or store listed later in its thread, by its address if to a load.
+    fn is_good(
+        self,
+        kinds: &[u8; Case::MOST_EVENTS],
+        owners: &[u8; Case::MOST_EVENTS],
+        k: usize,
+    ) -> bool
+        requires k_le_most_events { k ≤ most_events }
+        requires among { Among k self }
+        ensures { result ≡ good_at k kinds.now owners.now (link_of self) }
+    {
+        kinds[self.from] == Case::LOAD
+            && self.from < self.to
+            && owners[self.from] == owners[self.to]
+            && may_end(self.class, kinds[self.to])
+    }
+
+    // Whether it may follow those below rank least.
+    pub fn follows(
+        self,
+        kinds: &[u8; Case::MOST_EVENTS],
+        owners: &[u8; Case::MOST_EVENTS],
+        k: usize,
+        least: usize,
+    ) -> bool
+        requires k_le_most_events { k ≤ most_events }
+        requires among { Among k self }
+        ensures { result ≡ (leb least (dependency_rank k (link_of self)) && good_at k kinds.now owners.now (link_of self)) }
+    {
+        least <= self.rank(k) && self.is_good(kinds, owners, k)
+    }
+
+    // Its fault, where it has to have rank least or above.
+    fn check(
+        self,
+        kinds: &[u8; Case::MOST_EVENTS],
+        owners: &[u8; Case::MOST_EVENTS],
+        k: usize,
+        least: usize,
+    ) -> Result<(), Fault>
+        requires { k ≤ most_events }
+        ensures { fault_number result ≡ dependency_fault k (good_at k kinds.now owners.now) least (link_of self ∷ []) }
+    {
+        if !self.is_within(k) {
+            return Err(Fault::Range);
+        }
+        if !self.follows(kinds, owners, k, least) {
+            return Err(Fault::Turn);
+        }
+        Ok(())
+    }
 }
 
 // A dependency's rank among k events: by the event it goes from, the one it goes to, and its class.
@@ -272,7 +300,7 @@ pub fn link_rank(k: usize, class: usize, from: usize, to: usize) -> usize
     requires to_lt_k { to < k }
     ensures { result ≡ dependency_rank k (link class from to) }
 {
-    (from * k + to) * (Case::MOST_CLASS + 1) + class
+    Link { class, from, to }.rank(k)
 }
 
 // Whether a dependency of the class must end in a store: by data and by control, and not by address.
@@ -280,13 +308,7 @@ fn ends_in_store(class: usize) -> bool
     requires { class ≤ most_class }
     ensures { result ≡ not (eqb class by_address) }
 {
-    if class == Case::BY_ADDRESS {
-        return false;
-    }
-    if class == Case::BY_DATA {
-        return true;
-    }
-    class == Case::BY_CONTROL
+    class == Case::BY_DATA || class == Case::BY_CONTROL
 }
 
 // Whether a dependency of the class may end in an event of the kind.
@@ -294,38 +316,7 @@ fn may_end(class: usize, kind: u8) -> bool
     requires { class ≤ most_class }
     ensures { result ≡ (not (bare_kind kind) && (eqb class by_address || eqb kind store)) }
 {
-    if bare(kind) {
-        return false;
-    }
-    if ends_in_store(class) {
-        return kind == Case::STORE;
-    }
-    true
-}
-
-// Whether a dependency is good: from a load to a load or store listed later in its thread, by its address if to a load.
-fn link_good(
-    kinds: &[u8; Case::MOST_EVENTS],
-    owners: &[u8; Case::MOST_EVENTS],
-    k: usize,
-    class: usize,
-    from: usize,
-    to: usize,
-) -> bool
-    requires k_le_most_events { k ≤ most_events }
-    requires class_le_most_class { class ≤ most_class }
-    requires from_lt_k { from < k }
-    requires to_lt_k { to < k }
-    ensures { result ≡ good_at k kinds.now owners.now (link class from to) }
-{
-    if kinds[from] == Case::LOAD {
-        if from < to {
-            if owners[from] == owners[to] {
-                return may_end(class, kinds[to]);
-            }
-        }
-    }
-    false
+    !bare(kind) && (!ends_in_store(class) || kind == Case::STORE)
 }
 
 // Whether a dependency may follow those below rank least.
@@ -344,74 +335,34 @@ pub fn link_follows(
     requires to_lt_k { to < k }
     ensures { result ≡ (leb least (dependency_rank k (link class from to)) && good_at k kinds.now owners.now (link class from to)) }
 {
-    if least <= link_rank(k, class, from, to) {
-        return link_good(kinds, owners, k, class, from, to);
-    }
-    false
+    Link { class, from, to }.follows(kinds, owners, k, least)
 }
 
-// Whether a dependency's class and events are in their ranges.
-fn link_within(k: usize, class: usize, from: usize, to: usize) -> bool
-    ensures { result ≡ dependency_within k (link class from to) }
+// Dependency i of a case.
+fn link_at(c: &Case, i: usize) -> Link
+    requires { i < most_dependencies }
+    ensures { result ≡ record { class = get_or c.now.class i 0; from = get_or c.now.from i 0; to = get_or c.now.to i 0 } }
 {
-    if class <= Case::MOST_CLASS {
-        if from < k {
-            return to < k;
-        }
+    Link {
+        class: usize::from(c.class[i]),
+        from: usize::from(c.from[i]),
+        to: usize::from(c.to[i]),
     }
-    false
 }
 
-// The fault of a dependency that has to have rank least or above; 0 if there is none.
-fn link_fault(
-    kinds: &[u8; Case::MOST_EVENTS],
-    owners: &[u8; Case::MOST_EVENTS],
-    k: usize,
-    least: usize,
-    class: usize,
-    from: usize,
-    to: usize,
-) -> u8
-    requires { k ≤ most_events }
-    ensures { result ≡ dependency_fault k (good_at k kinds.now owners.now) least (link class from to ∷ []) }
-{
-    if !link_within(k, class, from, to) {
-        return 3;
-    }
-    if !link_follows(kinds, owners, k, least, class, from, to) {
-        return 4;
-    }
-    0
-}
-
-// The first fault of so many dependencies; 0 if there is none.
-fn links_fault<'a>(
-    kinds: &'a [u8; Case::MOST_EVENTS],
-    owners: &'a [u8; Case::MOST_EVENTS],
-    classes: &'a [u8; Case::MOST_DEPENDENCIES],
-    froms: &'a [u8; Case::MOST_DEPENDENCIES],
-    tos: &'a [u8; Case::MOST_DEPENDENCIES],
-    k: usize,
-    count: usize,
-) -> u8
-    requires k_le_most_events { k ≤ most_events }
+// The first fault of so many of a case's dependencies.
+fn check_links(c: &Case, count: usize) -> Result<(), Fault>
+    requires events_le_most_events { c.now.events ≤ most_events }
     requires count_le_most_dependencies { count ≤ most_dependencies }
-    ensures { result ≡ dependency_fault k (good_at k kinds.now owners.now) 0 (links_of count classes.now froms.now tos.now) }
+    ensures { fault_number result ≡ dependency_fault c.now.events (good_at c.now.events c.now.kind c.now.thread) 0 (links_of count c.now.class c.now.from c.now.to) }
 {
     let mut least: usize = 0;
-    let mut i: usize = 0;
-    while i < count {
-        let class = wide(classes[i]);
-        let from = wide(froms[i]);
-        let to = wide(tos[i]);
-        let found = link_fault(kinds, owners, k, least, class, from, to);
-        if found != 0 {
-            return found;
-        }
-        least = link_rank(k, class, from, to) + 1;
-        i += 1;
+    for i in 0..count {
+        let link = link_at(c, i);
+        link.check(&c.kind, &c.thread, c.events, least)?;
+        least = link.rank(c.events) + 1;
     }
-    0
+    Ok(())
 }
 
 // Whether event e is a store to x.
@@ -424,11 +375,7 @@ pub fn store_at(
     requires { e < most_events }
     ensures { result ≡ store_at kinds.now targets.now x e }
 {
-    let to = wide(targets[e]);
-    if kinds[e] == Case::STORE {
-        return to == x;
-    }
-    false
+    kinds[e] == Case::STORE && usize::from(targets[e]) == x
 }
 
 // How many of k events are stores to x.
@@ -441,167 +388,91 @@ pub fn count_stores(
     requires { k ≤ most_events }
     ensures { result ≡ count k (store_at kinds.now targets.now x) }
 {
-    let mut n: usize = 0;
-    let mut e: usize = 0;
-    while e < k {
-        if store_at(kinds, targets, x, e) {
-            n += 1;
-        }
-        e += 1;
-    }
-    n
-}
-
-// The event at place i of the write order of x.
-fn write_at(writes: &[u8; Case::MOST_ADDRESSES * Case::MOST_EVENTS], x: usize, i: usize) -> usize
-    requires { (x < most_addresses) × (i < most_events) }
-    ensures { result ≡ get_or writes.now (x * most_events + i) 0 }
-{
-    wide(writes[x * Case::MOST_EVENTS + i])
+    (0..k).filter(|&e| store_at(kinds, targets, x, e)).count()
 }
 
 // Whether event e is a store to x that is not listed yet.
-fn unlisted(
-    kinds: &[u8; Case::MOST_EVENTS],
-    targets: &[u8; Case::MOST_EVENTS],
-    x: usize,
-    e: usize,
-    listed: u64,
-) -> bool
+fn unlisted(c: &Case, x: usize, e: usize, listed: u64) -> bool
     requires { e < most_events }
-    ensures { result ≡ (store_at kinds.now targets.now x e && not (bit listed e)) }
+    ensures { result ≡ (store_at c.now.kind c.now.address x e && not (bit listed e)) }
 {
-    if store_at(kinds, targets, x, e) {
-        return !bits::has(listed, e);
-    }
-    false
+    store_at(&c.kind, &c.address, x, e) && !bits::has(listed, e)
 }
 
-// The fault of the write order of x; 0 if there is none.
-fn write_fault(
-    kinds: &[u8; Case::MOST_EVENTS],
-    targets: &[u8; Case::MOST_EVENTS],
-    writes: &[u8; Case::MOST_ADDRESSES * Case::MOST_EVENTS],
-    k: usize,
-    x: usize,
-) -> u8
-    requires { (k ≤ most_events) × (x < most_addresses) }
-    ensures { result ≡ write_fault k (store_at kinds.now targets.now x) [] (writes_at kinds.now targets.now writes.now k x) }
+// The fault of the write order of x.
+fn check_write_order(c: &Case, x: usize) -> Result<(), Fault>
+    requires { (c.now.events ≤ most_events) × (x < most_addresses) }
+    ensures { fault_number result ≡ write_fault c.now.events (store_at c.now.kind c.now.address x) [] (writes_at c.now.kind c.now.address c.now.writes c.now.events x) }
 {
-    let n = count_stores(kinds, targets, k, x);
+    let n = count_stores(&c.kind, &c.address, c.events, x);
+    let start = x * Case::MOST_EVENTS;
     let mut listed: u64 = 0;
-    let mut i: usize = 0;
-    while i < n {
-        let e = write_at(writes, x, i);
-        if k <= e {
-            return 3;
+    for &event in &c.writes[start..start + n] {
+        let e = usize::from(event);
+        if c.events <= e {
+            return Err(Fault::Range);
         }
-        if !unlisted(kinds, targets, x, e, listed) {
-            return 4;
+        if !unlisted(c, x, e, listed) {
+            return Err(Fault::Turn);
         }
         listed = bits::with(listed, e);
-        i += 1;
     }
-    0
+    Ok(())
 }
 
-// The first fault of the write orders; 0 if there is none.
-fn writes_fault<'a>(
-    kinds: &'a [u8; Case::MOST_EVENTS],
-    targets: &'a [u8; Case::MOST_EVENTS],
-    writes: &'a [u8; Case::MOST_ADDRESSES * Case::MOST_EVENTS],
-    k: usize,
-    m: usize,
-) -> u8
-    requires { (k ≤ most_events) × (m ≤ most_addresses) }
-    ensures { result ≡ writes_fault k (store_at kinds.now targets.now) 0 (table 0 m (writes_at kinds.now targets.now writes.now k)) }
+// The first fault of the write orders.
+fn check_write_orders(c: &Case) -> Result<(), Fault>
+    requires { (c.now.events ≤ most_events) × (c.now.addresses ≤ most_addresses) }
+    ensures { fault_number result ≡ writes_fault c.now.events (store_at c.now.kind c.now.address) 0 (table 0 c.now.addresses (writes_at c.now.kind c.now.address c.now.writes c.now.events)) }
 {
-    let mut x: usize = 0;
-    while x < m {
-        let found = write_fault(kinds, targets, writes, k, x);
-        if found != 0 {
-            return found;
-        }
-        x += 1;
+    for x in 0..c.addresses {
+        check_write_order(c, x)?;
     }
-    0
+    Ok(())
 }
 
-// The first fault of a case's dependencies, their number included; 0 if there is none.
-fn dependencies_fault(c: Case) -> u8
-    requires { c.events ≤ most_events }
-    ensures { result ≡ links_fault c }
+// The first fault of a case's dependencies, their number included.
+fn check_dependencies(c: &Case) -> Result<(), Fault>
+    requires { c.now.events ≤ most_events }
+    ensures { fault_number result ≡ links_fault c.now }
 {
     let count = link_count(c.edition, c.dependencies);
     if Case::MOST_DEPENDENCIES < count {
-        return 3;
+        return Err(Fault::Range);
     }
-    links_fault(
-        &c.kind, &c.thread, &c.class, &c.from, &c.to, c.events, count,
-    )
+    check_links(c, count)
 }
 
-// Whether the first bytes of a name are printable.
-fn name_printable(name: &[u8; Case::MOST_NAME], length: usize) -> bool
-    requires { length ≤ most_name }
-    ensures { result ≡ all length (λ i. printable_byte (get_or name.now i 0)) }
+// Whether a name's bytes are printable.
+fn name_printable(c: &Case) -> bool
+    requires { c.now.namelength ≤ most_name }
+    ensures { result ≡ all c.now.namelength (λ i. printable_byte (get_or c.now.name i 0)) }
 {
-    let mut i: usize = 0;
-    while i < length {
-        if !printable(name[i]) {
-            return false;
-        }
-        i += 1;
-    }
-    true
+    c.name[..c.namelength].iter().all(|&b| printable(b))
 }
 
-// The fault of a name; 0 if there is none.
-fn name_fault(name: &[u8; Case::MOST_NAME], length: usize) -> u8
-    ensures { result ≡ name_fault (table 0 length (λ i. get_or name.now i 0)) }
+// The fault of a name.
+fn check_name(c: &Case) -> Result<(), Fault>
+    ensures { fault_number result ≡ name_fault (table 0 c.now.namelength (λ i. get_or c.now.name i 0)) }
 {
-    if Case::MOST_NAME < length {
-        return 3;
+    if Case::MOST_NAME < c.namelength {
+        return Err(Fault::Range);
     }
-    if !name_printable(name, length) {
-        return 23;
+    if !name_printable(c) {
+        return Err(Fault::Unprintable);
     }
-    0
+    Ok(())
 }
 
-// The refusal of a case that is handed without bytes: 3 or 4, as the reader would give it for the first bad field, then 23 for a
-// byte of its name; 0 if there is none.
-pub fn fault(c: Case) -> u8
-    ensures { result ≡ fault_of (case_of c) }
+// The refusal of a case that is handed without bytes: Range or Turn, as the reader would give it for the first bad field, then
+// Unprintable for a byte of its name.
+pub fn check(c: Case) -> Result<(), Fault>
+    ensures { fault_number result ≡ fault_of (case_of c) }
 {
-    if !head_good(c.edition, c.threads, c.addresses) {
-        return 3;
+    if !head_good(&c) || !initials_good(&c) || Case::MOST_EVENTS < c.events || !events_good(&c) {
+        return Err(Fault::Range);
     }
-    if !initials_good(&c.initial, c.addresses) {
-        return 3;
-    }
-    if Case::MOST_EVENTS < c.events {
-        return 3;
-    }
-    if !events_good(
-        &c.kind,
-        &c.thread,
-        &c.address,
-        &c.value,
-        c.edition,
-        c.threads,
-        c.addresses,
-        c.events,
-    ) {
-        return 3;
-    }
-    let linked = dependencies_fault(c);
-    if linked != 0 {
-        return linked;
-    }
-    let found = writes_fault(&c.kind, &c.address, &c.writes, c.events, c.addresses);
-    if found != 0 {
-        return found;
-    }
-    name_fault(&c.name, c.namelength)
+    check_dependencies(&c)?;
+    check_write_orders(&c)?;
+    check_name(&c)
 }

@@ -1,23 +1,22 @@
 -- `case::event_good` meets its contract. Assumes nothing.
-use Rattle.case.proofs.Tested.{no_kind, no_thread, good_bare, no_address, by_value}
+use native.Mathlib.Omega.{arith}
+use Rattle.std.proofs.lemmas.Bool.Decides.{nat_tests}
+use Rattle.case.proofs.Faults.{event-good}
+use Rattle.case.proofs.event_good.Goals.{then-kind-most_kind, else-kind-most_kind}
 use Rattle.case.proofs.event_good.Goals as goal
 
 pub returns-then-bare : goal.returns-then-bare
 returns-then-bare c =
-    search good_bare
+    rw event-good (elim c.if-kind-most_kind.branch [ then-kind-most_kind w ↦ grind (arith, nat_tests) | else-kind-most_kind w ↦ grind (arith, nat_tests) ])
 
-pub returns-then-wide-addresses : goal.returns-then-wide-addresses
-returns-then-wide-addresses c =
-    search by_value
+pub returns-then-from-c-2 : goal.returns-then-from-c-2
+returns-then-from-c-2 c =
+    rw event-good (elim c.if-kind-most_kind.branch [ then-kind-most_kind w ↦ grind (arith, nat_tests) | else-kind-most_kind w ↦ grind (arith, nat_tests) ])
 
-pub returns-else-wide-addresses : goal.returns-else-wide-addresses
-returns-else-wide-addresses c =
-    search no_address
+pub returns-else-from-c-2 : goal.returns-else-from-c-2
+returns-else-from-c-2 c =
+    rw event-good (elim c.if-kind-most_kind.branch [ then-kind-most_kind w ↦ grind (arith, nat_tests) | else-kind-most_kind w ↦ grind (arith, nat_tests) ])
 
-pub returns-else-wide-threads : goal.returns-else-wide-threads
-returns-else-wide-threads c =
-    search no_thread
-
-pub returns-else-kind-most_kind : goal.returns-else-kind-most_kind
-returns-else-kind-most_kind c =
-    search no_kind
+pub returns-else-from-c : goal.returns-else-from-c
+returns-else-from-c c =
+    rw event-good (elim c.if-kind-most_kind.branch [ then-kind-most_kind w ↦ grind (arith, nat_tests) | else-kind-most_kind w ↦ grind (arith, nat_tests) ])

@@ -1,22 +1,18 @@
 -- `case::initials_good` meets its contract. Assumes nothing.
-use mathlib.Core.Path.{sym}
-use borrow.Author.Tests.{le-leb, lt-leb}
-use Rattle.finite.proofs.Tests.{all-not}
-use Rattle.finite.proofs.Loops.{begun, one_more, ends}
+use mathlib.Core.Path.{◌∙◌}
+use native.Mathlib.Omega.{arith}
+use borrow.Author.Rules.{rules}
+use borrow.Author.Tests.{tests}
+use lib.Dec.{leb}
+use lib.ListN.{take}
+use Rattle.std.proofs.lemmas.Iterator.{YieldsList-from_slice}
+use Rattle.std.proofs.lemmas.Iterator.Search.{all_from_yields_List}
+use Rattle.model.specs.Limits.{most_value}
+use Rattle.case.proofs.Chains.{all-front}
 use Rattle.case.proofs.initials_good.Goals as goal
-
-pub loop-x-init : goal.loop-x-init
-loop-x-init c =
-    begun
-
-pub returns-then-initial-x-gt-MOST_VALUE : goal.returns-then-initial-x-gt-MOST_VALUE
-returns-then-initial-x-gt-MOST_VALUE c =
-    sym (all-not _ _ _ c.loop-x-test.true (lt-leb _ _ c.if-initial-x-gt-MOST_VALUE.true))
-
-pub loop-x-preserved : goal.loop-x-preserved
-loop-x-preserved c =
-    search (one_more, le-leb)
 
 pub returns : goal.returns
 returns c =
-    search ends
+    let d = c.args.c.now in
+    all_from_yields_List {all = take d.addresses d.initial} (λ v. leb v most_value) _ _ _ c.all.ensures.ran (YieldsList-from_slice _ cc) (λ x b q k. search (rules, tests))
+    ∙ all-front (λ v. leb v most_value) d.initial d.addresses 0 (omega arith)

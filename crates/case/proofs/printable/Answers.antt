@@ -1,7 +1,8 @@
 -- `case::printable` meets its contract. Assumes nothing.
-use Rattle.case.proofs.Tested.{of_name}
+use Rattle.model.specs.Case.{printable}
 use Rattle.case.proofs.printable.Goals as goal
 
 pub returns : goal.returns
+unfolding printable
 returns c =
-    search of_name
+    cc

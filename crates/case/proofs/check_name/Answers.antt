@@ -1,9 +1,9 @@
--- `case::name_fault` meets its contract. Assumes nothing.
+-- `case::check_name` meets its contract. Assumes nothing.
 use Rattle.case.proofs.Means.{long-name, bad-name, good_name}
-use Rattle.case.proofs.name_fault.Goals as goal
+use Rattle.case.proofs.check_name.Goals as goal
 
-pub returns-then-length-gt-MOST_NAME : goal.returns-then-length-gt-MOST_NAME
-returns-then-length-gt-MOST_NAME c =
+pub returns-then-c-gt-MOST_NAME : goal.returns-then-c-gt-MOST_NAME
+returns-then-c-gt-MOST_NAME c =
     search long-name
 
 pub returns-then-not-name_printable : goal.returns-then-not-name_printable

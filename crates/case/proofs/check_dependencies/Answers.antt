@@ -1,6 +1,6 @@
--- `case::dependencies_fault` meets its contract. Assumes nothing.
+-- `case::check_dependencies` meets its contract. Assumes nothing.
 use Rattle.case.proofs.Means.{many_links, those_links}
-use Rattle.case.proofs.dependencies_fault.Goals as goal
+use Rattle.case.proofs.check_dependencies.Goals as goal
 
 pub returns-then-count-gt-MOST_DEPENDENCIES : goal.returns-then-count-gt-MOST_DEPENDENCIES
 returns-then-count-gt-MOST_DEPENDENCIES c =
