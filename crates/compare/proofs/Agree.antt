@@ -9,6 +9,7 @@ use borrow.Author.Count.{below_more}
 use borrow.Author.Tests.{not-true}
 use Rattle.finite.proofs.Tests.{and_l, and_r, and-true, and-false}
 use Rattle.bits.specs.Bit.{bit}
+use Rattle.std.proofs.Common.{Less, Equal, Greater}
 use Rattle.compare.specs.Alone.{Alone}
 
 pub record Agree {A : Type 0} (f g : ℕ → A) (n i : ℕ) : Type 0 where
@@ -47,27 +48,25 @@ neither false false h l = refl
 
 module _ (k s t b : ℕ) (A : Agree (bit s) (bit t) k b) where
   module _ (l : b < k) where
-    pub in_first : (x : Bool) → x ≡ (bit s b && not (bit t b)) → x ≡ true → Alone k s t 1
+    pub in_first : (x : Bool) → x ≡ (bit s b && not (bit t b)) → x ≡ true → Alone k s t Less
     in_first x e h =
         let h' : (bit s b && not (bit t b)) ≡ true = sym e ∙ h in
         record {
-          known = omega arith;
-          none = λ z. absurd (omega arith);
+          none = λ z. absurd (cc);
           first = λ z. record { event = b; below = l; has = and_l _ _ h'; lacks = not-true _ (and_r (bit s b) _ h'); same = A.same };
-          second = λ z. absurd (omega arith);
+          second = λ z. absurd (cc);
         }
 
     pub in_both : (x y : Bool) → x ≡ (bit s b && not (bit t b)) → x ≡ false → y ≡ (bit t b && not (bit s b)) → y ≡ false → Agree (bit s) (bit t) k (b + 1)
     in_both x y ex hx ey hy = next A l (neither (bit s b) (bit t b) (sym ex ∙ hx) (sym ey ∙ hy))
 
-  pub in_neither : k ≤ b → Alone k s t 0
-  in_neither l = record { known = omega arith; none = λ z. agree_all A l; first = λ z. absurd (omega arith); second = λ z. absurd (omega arith) }
+  pub in_neither : k ≤ b → Alone k s t Equal
+  in_neither l = record { none = λ z. agree_all A l; first = λ z. absurd (cc); second = λ z. absurd (cc) }
 
-pub in_second : (k s t b : ℕ) → Agree (bit s) (bit t) k b → b < k → (y : Bool) → y ≡ (bit t b && not (bit s b)) → y ≡ true → Alone k s t 2
+pub in_second : (k s t b : ℕ) → Agree (bit s) (bit t) k b → b < k → (y : Bool) → y ≡ (bit t b && not (bit s b)) → y ≡ true → Alone k s t Greater
 in_second k s t b A l y e h =
     record {
-      known = omega arith;
-      none = λ z. absurd (omega arith);
-      first = λ z. absurd (omega arith);
+      none = λ z. absurd (cc);
+      first = λ z. absurd (cc);
       second = λ z. (in_first k t s b (agree_back A) l y e h).first refl;
     }

@@ -1,4 +1,4 @@
-pub mod Turns
+pub mod Slices
 pub mod Decisions
 pub mod Groups
 pub mod Agree

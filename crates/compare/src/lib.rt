@@ -14,63 +14,32 @@ ghost use Rattle.compare.specs.Decided.{Decided};
 ghost use Rattle.compare.specs.Alone.{Alone};
 
 use case::Case;
-
-// How one field compares with another.
-pub const EQUAL: u8 = 0;
-
-pub const LESS: u8 = 1;
-
-pub const GREATER: u8 = 2;
+use std::cmp::Ordering;
 
 // Whether a is less than b, or equal to it.
 pub fn at_most(a: &[u8], b: &[u8]) -> bool
     ensures { result ≡ at_most a.now b.now }
 {
-    let mut i: usize = 0;
-    while i < a.len() {
-        if b.len() <= i {
-            return false;
-        }
-        let x = a[i];
-        let y = b[i];
-        if x < y {
-            return true;
-        }
-        if y < x {
-            return false;
-        }
-        i += 1;
-    }
-    true
+    a <= b
 }
 
 // The first byte of v.
 fn first(v: u32) -> u32
     ensures { result ≡ get_or (encode v) 0 0 }
 {
-    if v < 128 {
-        return v;
-    }
-    128 + v % 128
+    if v < 128 { v } else { 128 + v % 128 }
 }
 
 // How the bytes of v compare with those of w.
-pub fn numbers(v: u32, w: u32) -> u8
+pub fn numbers(v: u32, w: u32) -> Ordering
     ensures { Decided (encode v) (encode w) result }
 {
     let mut a = v;
     let mut b = w;
     loop {
-        let x = first(a);
-        let y = first(b);
-        if x < y {
-            return LESS;
-        }
-        if y < x {
-            return GREATER;
-        }
-        if a < 128 {
-            return EQUAL;
+        let order = first(a).cmp(&first(b));
+        if order.is_ne() || a < 128 {
+            return order;
         }
         a /= 128;
         b /= 128;
@@ -82,28 +51,23 @@ fn only(s: u64, t: u64, b: usize) -> bool
     requires { b < width }
     ensures { result ≡ (bit s b && not (bit t b)) }
 {
-    if bits::has(t, b) {
-        return false;
-    }
-    bits::has(s, b)
+    bits::has(s, b) && !bits::has(t, b)
 }
 
-// Which row has the first event below k that is in one of the two alone: LESS row s, GREATER row t, EQUAL neither.
-fn first_alone(s: u64, t: u64, k: usize) -> u8
+// Which row has the first event below k that is in one of the two alone: `Less` row s, `Greater` row t, `Equal` neither.
+fn first_alone(s: u64, t: u64, k: usize) -> Ordering
     requires { k ≤ width }
     ensures { Alone k s t result }
 {
-    let mut b: usize = 0;
-    while b < k {
+    for b in 0..k {
         if only(s, t, b) {
-            return LESS;
+            return Ordering::Less;
         }
         if only(t, s, b) {
-            return GREATER;
+            return Ordering::Greater;
         }
-        b += 1;
     }
-    EQUAL
+    Ordering::Equal
 }
 
 // The row of event a in p's order, without what lies past the last event.
@@ -117,21 +81,24 @@ fn row(rows: &[u64; Case::MOST_THREADS * Case::MOST_EVENTS], k: usize, p: usize,
 
 // How the bytes of p's pairs compare with those of q's, which are as many: in the first row that differs, the order with the first
 // pair that the other lacks is the lesser, since a later pair stands in its place there.
-fn pairs(rows: &[u64; Case::MOST_THREADS * Case::MOST_EVENTS], k: usize, p: usize, q: usize) -> u8
+fn pairs(
+    rows: &[u64; Case::MOST_THREADS * Case::MOST_EVENTS],
+    k: usize,
+    p: usize,
+    q: usize,
+) -> Ordering
     requires p_lt_most_threads { (p < most_threads) × ((q < most_threads) × (k ≤ most_events)) }
     requires k_value { count_of rows.now p k ≡ count_of rows.now q k }
     ensures { Decided (each pair_bytes (rows_pairs k 0 (order k rows.now p))) (each pair_bytes (rows_pairs k 0 (order k rows.now q))) result }
 {
-    let mut a: usize = 0;
-    while a < k {
+    for a in 0..k {
         let s = row(rows, k, p, a);
         let t = row(rows, k, q, a);
         if s != t {
             return first_alone(s, t, k);
         }
-        a += 1;
     }
-    EQUAL
+    Ordering::Equal
 }
 
 // How the bytes of p's order compare with those of q's.
@@ -140,14 +107,15 @@ pub fn orders(
     k: usize,
     p: usize,
     q: usize,
-) -> u8
+) -> Ordering
     requires { (p < most_threads) × ((q < most_threads) × (k ≤ most_events)) }
     ensures { Decided (order_bytes k (order k rows.now p)) (order_bytes k (order k rows.now q)) result }
 {
     let n = writer::count_pairs(rows, p, k);
     let m = writer::count_pairs(rows, q, k);
     if n == m {
-        return pairs(rows, k, p, q);
+        pairs(rows, k, p, q)
+    } else {
+        numbers(n as u32, m as u32)
     }
-    numbers(n as u32, m as u32)
 }

@@ -1,4 +1,4 @@
-pub mod Fields
-pub mod Better
-pub mod Best
+pub mod FirstField
+pub mod Alone
+pub mod Search
 pub mod Represented

@@ -1,14 +1,13 @@
 -- The fields of a record that decide between two permutations, over the arrays of a struct: of threads, the thread fields and the thread
 -- orders; of addresses, the initial values and the address fields.
 -- Assumes nothing.
-use Rattle.std.specs.Prelude.{ℕ, cond, not, ◌&&◌, List, [], ◌++◌, get_or}
+use Rattle.std.specs.Prelude.{ℕ, cond, List, [], ◌++◌, get_or}
 use Rattle.number.specs.Number.{encode}
-use Rattle.permutation.specs.Permutation.{image, inverse, fits}
+use Rattle.permutation.specs.Permutation.{image, inverse}
 use Rattle.model.specs.Case.{bare}
 use Rattle.model.specs.Written.{order_bytes}
 use Rattle.writer.specs.Stages.{run}
 use Rattle.relabel.specs.Orders.{order}
-use Rattle.classes.specs.Order.{at_most}
 
 -- the thread field of event e under the threads' permutation q
 unfoldable pub thread_at : (threads : List ℕ) (q e : ℕ) → List ℕ
@@ -31,7 +30,3 @@ address_at ks xs r e = cond (bare (get_or ks e 0)) [] (encode (image r (get_or x
 
 unfoldable pub addresses_part : (initials kinds addresses : List ℕ) (m k r : ℕ) → List ℕ
 addresses_part is ks xs m k r = run (initial_at is r) m ++ run (address_at ks xs r) k
-
--- of two permutations of n labels the better one: q where it fits and its part is less than that of best, else best
-abbrev pub better : (part : ℕ → List ℕ) (n best q : ℕ) → ℕ
-better part n best q = cond (fits q n && not (at_most (part best) (part q))) q best

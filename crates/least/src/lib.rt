@@ -1,23 +1,40 @@
 // A case's representative: the renumbering with the least record, found by comparing fields.
 #![tactic(auto)]
 
-ghost use Rattle.std.specs.Prelude.{◌≡◌, cond, [], ◌≤◌, ◌<◌};
+ghost use Rattle.std.specs.Prelude.{◌≡◌, ℕ, cond, List, [], ◌≤◌, ◌<◌};
+ghost use Rattle.std.specs.declared.cmp.Ordering.{Ordering};
 ghost use Rattle.number.specs.Number.{encode};
-ghost use Rattle.permutation.specs.Permutation.{labels, image as image_of, inverse as inverse_of};
+ghost use Rattle.permutation.specs.Permutation.{labels, permutations, fits, image as image_of, inverse as inverse_of};
 ghost use Rattle.model.specs.Limits.{most_threads, most_addresses, most_events};
 ghost use Rattle.model.specs.Case.{bare as bare_of};
 ghost use Rattle.model.specs.Fault.{fault};
 ghost use Rattle.case.specs.Held.{case_of, held};
 ghost use Rattle.writer.specs.Stages.{run};
 ghost use Rattle.classes.specs.Representative.{representative as representative_of};
-ghost use Rattle.classes.specs.Search.{BestThreads, BestAddresses};
+ghost use Rattle.classes.specs.Search.{Best, BestThreads, BestAddresses};
 ghost use Rattle.compare.specs.Decided.{Decided};
-ghost use Rattle.least.specs.Parts.{thread_at, order_at, threads_part, initial_at, address_at, addresses_part, better};
+ghost use Rattle.least.specs.Fields.{FirstDiffers};
+ghost use Rattle.least.specs.Parts.{thread_at, order_at, threads_part, initial_at, address_at, addresses_part};
 
 use case::Case;
+use std::cmp::Ordering;
+
+// How n fields compare: as the first one that differs.
+fn fields<F: Fn(usize) -> Ordering>(n: usize, field: F) -> Ordering
+    requires { (i : ℕ) → i < n → F.pre field i }
+    ensures { FirstDiffers (F.post field) n result }
+{
+    for i in 0..n {
+        let order = field(i);
+        if order.is_ne() {
+            return order;
+        }
+    }
+    Ordering::Equal
+}
 
 // How the bytes of label x under the permutation q compare with those under p.
-fn label(x: u8, q: usize, p: usize) -> u8
+fn label(x: u8, q: usize, p: usize) -> Ordering
     ensures { Decided (encode (image_of q x)) (encode (image_of p x)) result }
 {
     compare::numbers(
@@ -27,19 +44,11 @@ fn label(x: u8, q: usize, p: usize) -> u8
 }
 
 // How the thread fields of k events compare.
-fn threads(thread: &[u8; Case::MOST_EVENTS], k: usize, q: usize, p: usize) -> u8
+fn threads(thread: &[u8; Case::MOST_EVENTS], k: usize, q: usize, p: usize) -> Ordering
     requires { k ≤ most_events }
     ensures { Decided (run (thread_at thread.now q) k) (run (thread_at thread.now p) k) result }
 {
-    let mut e: usize = 0;
-    while e < k {
-        let d = label(thread[e], q, p);
-        if d != compare::EQUAL {
-            return d;
-        }
-        e += 1;
-    }
-    compare::EQUAL
+    fields(k, |e| label(thread[e], q, p))
 }
 
 // The label whose values move to label y under the permutation q.
@@ -57,7 +66,7 @@ fn order(
     q: usize,
     p: usize,
     y: usize,
-) -> u8
+) -> Ordering
     requires { (y < most_threads) × (k ≤ most_events) }
     ensures { Decided (order_at rows.now k q y) (order_at rows.now k p y) result }
 {
@@ -73,19 +82,11 @@ fn orders(
     k: usize,
     q: usize,
     p: usize,
-) -> u8
+) -> Ordering
     requires { (n ≤ most_threads) × (k ≤ most_events) }
     ensures { Decided (run (order_at rows.now k q) n) (run (order_at rows.now k p) n) result }
 {
-    let mut y: usize = 0;
-    while y < n {
-        let d = order(rows, k, q, p, y);
-        if d != compare::EQUAL {
-            return d;
-        }
-        y += 1;
-    }
-    compare::EQUAL
+    fields(n, |y| order(rows, k, q, p, y))
 }
 
 // How the fields that decide between the permutations q and p of threads compare.
@@ -96,34 +97,23 @@ fn by_threads<'a>(
     k: usize,
     q: usize,
     p: usize,
-) -> u8
+) -> Ordering
     requires { (n ≤ most_threads) × (k ≤ most_events) }
     ensures { Decided (threads_part thread.now rows.now n k q) (threads_part thread.now rows.now n k p) result }
 {
-    let d = threads(thread, k, q, p);
-    if d != compare::EQUAL {
-        return d;
-    }
-    orders(rows, n, k, q, p)
+    threads(thread, k, q, p).then_with(|| orders(rows, n, k, q, p))
 }
 
-// Of two permutations of threads the better one, the first if they give the same.
-fn better_threads<'a>(
-    thread: &'a [u8; Case::MOST_EVENTS],
-    rows: &'a [u64; Case::MOST_THREADS * Case::MOST_EVENTS],
-    n: usize,
-    k: usize,
-    best: usize,
-    q: usize,
-) -> usize
-    requires { (n ≤ most_threads) × (k ≤ most_events) }
-    ensures { result ≡ better (threads_part thread.now rows.now n k) n best q }
+// Of all permutations of n labels the best by how what they give compares, the first of those that give the same.
+fn best<F: Fn(usize, usize) -> Ordering>(n: usize, by: F) -> usize
+    requires { F.IsAlwaysCallable by }
+    ensures { (part : ℕ → List ℕ) → ((q p : ℕ) (r : Ordering) → F.post by q p r → Decided (part q) (part p) r) → Best (λ q. fits q n) part permutations result }
 {
-    if permutation::fits(q, n) {
-        if by_threads(thread, rows, n, k, best, q) == compare::GREATER {
-            return q;
+    let mut best = 0;
+    for q in 1..permutation::PERMUTATIONS {
+        if permutation::fits(q, n) && by(best, q).is_gt() {
+            best = q;
         }
-        return best;
     }
     best
 }
@@ -133,17 +123,13 @@ fn best_threads(c: Case) -> usize
     requires { fault (case_of c) ≡ 0 }
     ensures { BestThreads (case_of c) result }
 {
-    let mut best: usize = 0;
-    let mut q: usize = 1;
-    while q < permutation::PERMUTATIONS {
-        best = better_threads(&c.thread, &c.rows, c.threads, c.events, best, q);
-        q += 1;
-    }
-    best
+    best(c.threads, |q, p| {
+        by_threads(&c.thread, &c.rows, c.threads, c.events, q, p)
+    })
 }
 
 // How the initial values that stand at label y compare.
-fn initial(initials: &[u32; Case::MOST_ADDRESSES], r: usize, s: usize, y: usize) -> u8
+fn initial(initials: &[u32; Case::MOST_ADDRESSES], r: usize, s: usize, y: usize) -> Ordering
     requires { y < most_addresses }
     ensures { Decided (initial_at initials.now r y) (initial_at initials.now s y) result }
 {
@@ -153,29 +139,22 @@ fn initial(initials: &[u32; Case::MOST_ADDRESSES], r: usize, s: usize, y: usize)
 }
 
 // How the initial values of m addresses compare.
-fn initials(initials: &[u32; Case::MOST_ADDRESSES], m: usize, r: usize, s: usize) -> u8
+fn initials(initials: &[u32; Case::MOST_ADDRESSES], m: usize, r: usize, s: usize) -> Ordering
     requires { m ≤ most_addresses }
     ensures { Decided (run (initial_at initials.now r) m) (run (initial_at initials.now s) m) result }
 {
-    let mut y: usize = 0;
-    while y < m {
-        let d = initial(initials, r, s, y);
-        if d != compare::EQUAL {
-            return d;
-        }
-        y += 1;
-    }
-    compare::EQUAL
+    fields(m, |y| initial(initials, r, s, y))
 }
 
 // How the address fields of an event of the kind compare, if it has one.
-fn address(kind: u8, x: u8, r: usize, s: usize) -> u8
+fn address(kind: u8, x: u8, r: usize, s: usize) -> Ordering
     ensures { Decided (cond (bare_of kind) [] (encode (image_of r x))) (cond (bare_of kind) [] (encode (image_of s x))) result }
 {
     if case::bare(kind) {
-        return compare::EQUAL;
+        Ordering::Equal
+    } else {
+        label(x, r, s)
     }
-    label(x, r, s)
 }
 
 // How the address fields of k events compare.
@@ -185,19 +164,11 @@ fn addresses<'a>(
     k: usize,
     r: usize,
     s: usize,
-) -> u8
+) -> Ordering
     requires { k ≤ most_events }
     ensures { Decided (run (address_at kinds.now xs.now r) k) (run (address_at kinds.now xs.now s) k) result }
 {
-    let mut e: usize = 0;
-    while e < k {
-        let d = address(kinds[e], xs[e], r, s);
-        if d != compare::EQUAL {
-            return d;
-        }
-        e += 1;
-    }
-    compare::EQUAL
+    fields(k, |e| address(kinds[e], xs[e], r, s))
 }
 
 // How the fields that decide between the permutations r and s of addresses compare.
@@ -209,37 +180,11 @@ fn by_addresses<'a>(
     k: usize,
     r: usize,
     s: usize,
-) -> u8
+) -> Ordering
     requires { (m ≤ most_addresses) × (k ≤ most_events) }
     ensures { Decided (addresses_part values.now kinds.now xs.now m k r) (addresses_part values.now kinds.now xs.now m k s) result }
 {
-    let d = initials(values, m, r, s);
-    if d != compare::EQUAL {
-        return d;
-    }
-    addresses(kinds, xs, k, r, s)
-}
-
-// Of two permutations of addresses the better one, the first if they give the same.
-fn better_addresses<'a>(
-    values: &'a [u32; Case::MOST_ADDRESSES],
-    kinds: &'a [u8; Case::MOST_EVENTS],
-    xs: &'a [u8; Case::MOST_EVENTS],
-    m: usize,
-    k: usize,
-    best: usize,
-    r: usize,
-) -> usize
-    requires { (m ≤ most_addresses) × (k ≤ most_events) }
-    ensures { result ≡ better (addresses_part values.now kinds.now xs.now m k) m best r }
-{
-    if permutation::fits(r, m) {
-        if by_addresses(values, kinds, xs, m, k, best, r) == compare::GREATER {
-            return r;
-        }
-        return best;
-    }
-    best
+    initials(values, m, r, s).then_with(|| addresses(kinds, xs, k, r, s))
 }
 
 // The permutation of addresses that gives the least record.
@@ -247,21 +192,9 @@ fn best_addresses(c: Case) -> usize
     requires { fault (case_of c) ≡ 0 }
     ensures { BestAddresses (case_of c) result }
 {
-    let mut best: usize = 0;
-    let mut r: usize = 1;
-    while r < permutation::PERMUTATIONS {
-        best = better_addresses(
-            &c.initial,
-            &c.kind,
-            &c.address,
-            c.addresses,
-            c.events,
-            best,
-            r,
-        );
-        r += 1;
-    }
-    best
+    best(c.addresses, |r, s| {
+        by_addresses(&c.initial, &c.kind, &c.address, c.addresses, c.events, r, s)
+    })
 }
 
 // The renumbering of a case whose record is the least.

@@ -6,6 +6,6 @@ pub returns-then-v-lt128 : goal.returns-then-v-lt128
 returns-then-v-lt128 c =
     search first_low
 
-pub returns : goal.returns
-returns c =
+pub returns-else-v-lt128 : goal.returns-else-v-lt128
+returns-else-v-lt128 c =
     search first_high

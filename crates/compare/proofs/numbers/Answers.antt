@@ -1,23 +1,15 @@
 -- `compare::numbers` meets its contract. Assumes nothing.
-use Rattle.compare.proofs.Groups.{begun, less, greater, equal, again}
+use Rattle.compare.proofs.Groups.{differs, ends, again}
+use Rattle.compare.proofs.numbers.Goals.{then-is_ne-via-then-is_ne, then-is_ne-via-else-is_ne+then-a-lt128}
 use Rattle.compare.proofs.numbers.Goals as goal
 
-pub loop-v-init : goal.loop-v-init
-loop-v-init c =
-    begun
+pub returns-then-is_ne : goal.returns-then-is_ne
+returns-then-is_ne c =
+    elim c.then-is_ne.branch [
+      | then-is_ne-via-then-is_ne w ↦ differs c.loop-order.invariant _ _ c.first.ensures c.first-in-loop-order.ensures _ c.cmp-order.ensures _ c.is_ne.ensures w.if-is_ne.true
+      | then-is_ne-via-else-is_ne+then-a-lt128 w ↦ ends c.loop-order.invariant _ _ c.first.ensures c.first-in-loop-order.ensures _ c.cmp-order.ensures w.if-a-lt128.true
+    ]
 
-pub returns-then-x-y : goal.returns-then-x-y
-returns-then-x-y c =
-    search less
-
-pub returns-then-y-x : goal.returns-then-y-x
-returns-then-y-x c =
-    search greater
-
-pub returns-then-a-lt128 : goal.returns-then-a-lt128
-returns-then-a-lt128 c =
-    search equal
-
-pub loop-v-preserved : goal.loop-v-preserved
-loop-v-preserved c =
-    search again
+pub loop-order-preserved : goal.loop-order-preserved
+loop-order-preserved c =
+    again c.loop-order.invariant _ _ c.first.ensures c.first-in-loop-order.ensures _ c.cmp-order.ensures _ c.is_ne.ensures c.if-is_ne.false c.if-a-lt128.false

@@ -2,8 +2,8 @@
 use Rattle.compare.proofs.Groups.{Left}
 use Rattle.compare.proofs.numbers.Given as goal
 
-abbrev pub invariant-loop-v : goal.invariant-loop-v
-invariant-loop-v l = Left l.v l.w l.a l.b
+abbrev pub invariant-loop-order : goal.invariant-loop-order
+invariant-loop-order l = Left l.v l.w l.a l.b
 
-abbrev pub decreases-loop-v : goal.decreases-loop-v
-decreases-loop-v l = l.a
+abbrev pub decreases-loop-order : goal.decreases-loop-order
+decreases-loop-order l = l.a

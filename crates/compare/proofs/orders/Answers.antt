@@ -6,6 +6,6 @@ pub returns-then-n-m : goal.returns-then-n-m
 returns-then-n-m c =
     search counts-equal
 
-pub returns : goal.returns
-returns c =
+pub returns-else-n-m : goal.returns-else-n-m
+returns-else-n-m c =
     search counts_differ

@@ -1,20 +1,19 @@
 -- `least::best_addresses` meets its contract. Assumes nothing.
+use Rattle.std.proofs.Common.{rules, ◌≤◌}
+use Rattle.model.specs.Limits.{most_addresses, most_events}
 use Rattle.case.proofs.Bounds.{sound}
-use Rattle.least.proofs.Best.{one_tried, tried_next, tried_all, best_addresses_is}
+use Rattle.least.specs.Parts.{addresses_part}
+use Rattle.least.proofs.Search.{best_addresses_is}
 use Rattle.least.proofs.best_addresses.Goals as goal
 
-pub loop-r-init : goal.loop-r-init
-loop-r-init c =
-    one_tried _ _
-
-pub better_addresses-best-requires : goal.better_addresses-best-requires
-better_addresses-best-requires c =
-    let S = sound _ c.requires in (S.addresses_most, S.events_most)
-
-pub loop-r-preserved : goal.loop-r-preserved
-loop-r-preserved c =
-    tried_next _ _ _ _ c.loop-r.invariant c.loop-r-test.true _ c.better_addresses-best.ensures
+pub best-requires : goal.best-requires
+best-requires c =
+    let S = sound _ c.requires in
+    let n : c.args.c.addresses ≤ most_addresses = S.addresses_most in
+    let k : c.args.c.events ≤ most_events = S.events_most in
+    search rules
 
 pub returns : goal.returns
 returns c =
-    best_addresses_is _ c.requires _ (tried_all _ _ _ _ c.loop-r.invariant c.loop-r-test.false)
+    let a = c.args in
+    best_addresses_is _ c.requires _ (c.best.ensures (addresses_part a.c.initial a.c.kind a.c.address a.c.addresses a.c.events) (λ q p r h. search rules))

@@ -1,5 +1,5 @@
 -- `least::initial` meets its contract. Assumes nothing.
-use Rattle.least.proofs.Fields.{initial_field}
+use Rattle.least.proofs.FirstField.{initial_field}
 use Rattle.least.proofs.initial.Goals as goal
 
 pub returns : goal.returns

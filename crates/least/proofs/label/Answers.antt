@@ -1,5 +1,5 @@
 -- `least::label` meets its contract. Assumes nothing.
-use Rattle.least.proofs.Fields.{of_numbers}
+use Rattle.least.proofs.FirstField.{of_numbers}
 use Rattle.least.proofs.label.Goals as goal
 
 pub returns : goal.returns

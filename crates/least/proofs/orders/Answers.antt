@@ -1,20 +1,10 @@
 -- `least::orders` meets its contract. Assumes nothing.
-use Rattle.compare.proofs.Agree.{begun}
-use Rattle.least.proofs.Fields.{differs, again, ends}
+use Rattle.std.proofs.Common.{rules}
+use Rattle.least.specs.Parts.{order_at}
+use Rattle.least.proofs.FirstField.{of_fields}
 use Rattle.least.proofs.orders.Goals as goal
 
-pub loop-y-init : goal.loop-y-init
-loop-y-init c =
-    begun
-
-pub returns-then-d-ne-EQUAL : goal.returns-then-d-ne-EQUAL
-returns-then-d-ne-EQUAL c =
-    search differs
-
-pub loop-y-preserved : goal.loop-y-preserved
-loop-y-preserved c =
-    search again
-
 pub returns : goal.returns
+unfolding order_at
 returns c =
-    search ends
+    of_fields _ _ _ (λ i r l h. search rules) _ c.fields.ensures

@@ -1,6 +1,6 @@
 -- `least::representative` meets its contract. Assumes nothing.
 use Rattle.case.proofs.Bounds.{sound}
-use Rattle.least.proofs.Best.{both_fit, both_best}
+use Rattle.least.proofs.Search.{both_fit, both_best}
 use Rattle.least.proofs.representative.Goals as goal
 
 pub relabel-requires-clause-sound : goal.relabel-requires-clause-sound

@@ -3,8 +3,8 @@
 use Prim.Native.Nat.{ℕ, ◌+◌, ◌≤◌, ◌<◌}
 use native.Mathlib.Nat.{le_antisymm}
 use native.Mathlib.Omega.{arith}
-use mathlib.Core.Path.{◌≡◌, refl, sym, ap, ap₂, ◌∙◌, subst}
-use mathlib.Core.Bool.{Bool, true, false, cond, not, ◌&&◌, false≢true}
+use mathlib.Core.Path.{◌≡◌, refl, ap, ap₂, ◌∙◌, subst}
+use mathlib.Core.Bool.{Bool, true, false, cond}
 use mathlib.Core.List.{List, [], ◌++◌}
 use lib.ListN.{get_or}
 use Rattle.finite.specs.Lists.{table, each}
@@ -28,7 +28,7 @@ use Rattle.classes.specs.Representative.{representative}
 use Rattle.classes.specs.Search.{Best, BestThreads, BestAddresses}
 use Rattle.classes.proofs.Decide.{thread_byte, thread_bytes, orders_bytes, address_byte, initial_bytes, address_bytes, threads_decide}
 use Rattle.classes.proofs.Search.{best_first, best_kept, best_taken, best_by, best_two, addresses_alone}
-use Rattle.least.specs.Parts.{thread_at, order_at, threads_part, initial_at, address_at, addresses_part, better}
+use Rattle.least.specs.Parts.{thread_at, order_at, threads_part, initial_at, address_at, addresses_part}
 
 -- ---- the search
 
@@ -42,13 +42,11 @@ module _ (part : ℕ → List ℕ) (n : ℕ) where
   one_tried = record { within = omega arith; best_so_far = best_first (λ q. fits q n) part (T_true {b = fits 0 n} (fits_identity n)) }
 
   module _ (best i : ℕ) (T : Tried part n best i) where
-    pub tried_next : i < permutations → (after : ℕ) → after ≡ better part n best i → Tried part n after (i + 1)
-    tried_next l after e = record { within = omega arith; best_so_far = subst (Best (λ q. fits q n) part (i + 1)) (sym e) (go (fits i n) (at_most (part best) (part i)) refl refl) }
-      where
-        go : (t x : Bool) → fits i n ≡ t → at_most (part best) (part i) ≡ x → Best (λ q. fits q n) part (i + 1) (cond (t && not x) i best)
-        go false x f g = best_kept (λ q. fits q n) part i best T.best_so_far (λ h. absurd (false≢true (sym f ∙ h)))
-        go true true f g = best_kept (λ q. fits q n) part i best T.best_so_far (λ h. g)
-        go true false f g = best_taken (λ q. fits q n) part i best T.best_so_far f g
+    pub tried_kept : i < permutations → (fits i n ≡ true → at_most (part best) (part i) ≡ true) → Tried part n best (i + 1)
+    tried_kept l h = record { within = omega arith; best_so_far = best_kept (λ q. fits q n) part i best T.best_so_far h }
+
+    pub tried_taken : i < permutations → fits i n ≡ true → at_most (part best) (part i) ≡ false → Tried part n i (i + 1)
+    tried_taken l f g = record { within = omega arith; best_so_far = best_taken (λ q. fits q n) part i best T.best_so_far f g }
 
     pub tried_all : permutations ≤ i → Best (λ q. fits q n) part permutations best
     tried_all l = subst (λ (j : ℕ). Best (λ q. fits q n) part j best) (le_antisymm T.within l) T.best_so_far
