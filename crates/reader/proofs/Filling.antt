@@ -7,10 +7,7 @@ use native.Mathlib.Omega.{arith}
 use lib.ListN.{length, length-append}
 use Rattle.number.specs.Reader.{Out, stop, next, Reader, turns, another}
 use Rattle.number.proofs.Turns.{turns-none, turns-stop, turns_next, another-stop, another-next}
-use Rattle.reader.specs.Answers.{Stores}
-use Rattle.number.specs.declared.Refusal.{Refusal}
-use Rattle.reader.specs.declared.PlaceRead.{PlaceRead}
-use Rattle.reader.specs.declared.PlaceRead.TheVariants as place
+use Rattle.reader.specs.Answers.{Done}
 
 -- of k things i are read, each by the reader r that goes by those before it, and stored
 pub record Filling {A : Type 0} (Stored : List A → Type 0) (r : List A → Reader A) (all : Out (List A)) (s : List ℕ) (k at i : ℕ) : Type 0 where
@@ -25,14 +22,13 @@ module _ {A : Type 0} (Stored : List A → Type 0) (r : List A → Reader A) (s 
   filling_begun h = let z : k - 0 ≡ k = omega arith in record { read = []; stored = h; count = refl; few = omega arith; same = rw z }
 
 module _ {A : Type 0} (Stored : List A → Type 0) (r : List A → Reader A) (all : Out (List A)) (s : List ℕ) (k at i : ℕ) (h : Filling Stored r all s k at i) where
-  pub filling_all : k ≤ i → Stores Stored all (place.Next at)
-  filling_all l = rw (← h.same, turns-none (λ as'. another (r as') as') s (k - i) h.read at (omega arith)) (refl, h.stored)
+  pub filling_all : k ≤ i → Done Stored all at
+  filling_all l = record { what = h.read; is = sym h.same ∙ turns-none (λ as'. another (r as') as') s (k - i) h.read at (omega arith); stored = h.stored }
 
   module _ (l : i < k) where
-    pub filling_stop : (S : List A → Type 0) (x p : ℕ) → ((as' : List A) → length as' ≡ i → Stored as' → r as' s at ≡ stop x p)
-        → Stores S all (place.Refused (record { number = x; place = p }))
-    filling_stop S x p f =
-        rw (← h.same, turns-stop (λ as'. another (r as') as') s (k - i) h.read at x p (omega arith) (another-stop (r h.read) h.read s at x p (f h.read h.count h.stored))) refl
+    pub filling_stop : (x p : ℕ) → ((as' : List A) → length as' ≡ i → Stored as' → r as' s at ≡ stop x p) → all ≡ stop x p
+    filling_stop x p f =
+        sym h.same ∙ turns-stop (λ as'. another (r as') as') s (k - i) h.read at x p (omega arith) (another-stop (r h.read) h.read s at x p (f h.read h.count h.stored))
 
     pub filling_next : (a : A) (p : ℕ) → ((as' : List A) → length as' ≡ i → Stored as' → r as' s at ≡ next a p) → (Stored' : List A → Type 0)
         → ((as' : List A) → length as' ≡ i → Stored as' → Stored' (as' ++ (a ∷ []))) → Filling Stored' r all s k p (i + 1)
@@ -45,22 +41,5 @@ module _ {A : Type 0} (Stored : List A → Type 0) (r : List A → Reader A) (al
     }
 
 -- what is stored so is stored so too
-pub stores-map : {A : Type 0} (S T : A → Type 0) → ((a : A) → S a → T a) → (o : Out A) (r : PlaceRead) → Stores S o r → Stores T o r
-stores-map S T f (stop x p) r h = h
-stores-map S T f (next a p) r h = (h.0, f a h.1)
-
--- what a stage's answer says of what it read
-pub stop_of : {A : Type 0} (S : A → Type 0) (o : Out A) (r : PlaceRead) (f : Refusal) → Stores S o r → r ≡ place.Refused f → o ≡ stop f.number f.place
-stop_of S (stop x p) r f h u =
-    let e : ◌≡◌ {A = Refusal} (record { number = x; place = p }) f = cc in
-    ap (λ (g : Refusal). stop g.number g.place) e
-stop_of S (next a p) r f h u = let e = h.0 in let z : ◌≡◌ {A = ℕ} 0 1 = cc in absurd (omega arith)
-
-pub record Done {A : Type 0} (S : A → Type 0) (o : Out A) (p : ℕ) : Type 0 where
-  pub what : A
-  pub is : o ≡ next what p
-  pub stored : S what
-
-pub next_of : {A : Type 0} (S : A → Type 0) (o : Out A) (r : PlaceRead) (q : ℕ) → Stores S o r → r ≡ place.Next q → Done S o q
-next_of S (stop x p) r q h u = let z : ◌≡◌ {A = ℕ} 0 1 = cc in absurd (omega arith)
-next_of S (next a p) r q h u = let e = h.0 in let pq : p ≡ q = cc in record { what = a; is = rw pq; stored = h.1 }
+pub done-map : {A : Type 0} (S T : A → Type 0) → ((a : A) → S a → T a) → (o : Out A) (p : ℕ) → Done S o p → Done T o p
+done-map S T f o p d = record { what = d.what; is = d.is; stored = f d.what d.stored }

@@ -11,8 +11,7 @@ use lib.Seq.{length-take-le}
 use borrow.Author.Tests.{leb-true, ltb-true, ltb-false}
 use Rattle.finite.specs.Lists.{every}
 use Rattle.number.specs.Number.{Raw, got, short, wrong, groups, read_groups, finish, read_number}
-use Rattle.number.specs.declared.NumberRead.TheVariants.{Number, Refused}
-use Rattle.number.specs.Reader.{Out, stop, next, Reader, give, ◌>>=◌, onward, tested, unless, turns, another, times, number_out, up_to, within, below, under}
+use Rattle.number.specs.Reader.{Out, stop, next, Reader, give, ◌>>=◌, onward, tested, unless, turns, another, times, up_to, within, below, under}
 use Rattle.model.specs.Limits.{least_edition, most_edition, second, most_threads, most_addresses, most_events, most_dependencies, most_value, most_name}
 use Rattle.model.specs.Case.{Event, Dependency, bare, most_kind, most_class, printable}
 use Rattle.model.specs.Record.{event, dependency, dependency_good, dependency_rank, least_after, rising_dependency, rising_dependencies, dependencies, unlisted, write_order, next_write_order, pair, rank, rising_pair, next_pair, no_pairs, order, bytes, printable_front, printed, text, head, listing, rest, case, store_to}
@@ -117,12 +116,12 @@ module _ {s : List ℕ} where
   unfolding up_to read_number finish
   forward_up_to hi = record { from = λ at. go at (read_groups groups 0 (drop at s)) }
     where
-      go : (at : ℕ) (r : Raw) → Outcome (λ v p. v ≤ hi) at (number_out (finish at hi r))
+      go : (at : ℕ) (r : Raw) → Outcome (λ v p. v ≤ hi) at (finish at hi r)
       go at short = tt
       go at wrong = tt
       go at (got v n) = limited (ltb hi v) refl
         where
-          limited : (t : Bool) → ltb hi v ≡ t → Outcome (λ v p. v ≤ hi) at (number_out (cond t (Refused 3 at) (Number v (at + n))))
+          limited : (t : Bool) → ltb hi v ≡ t → Outcome (λ v p. v ≤ hi) at (cond t (stop 3 at) (next v (at + n)))
           limited true e = tt
           limited false e = record { on = omega arith; holds = ltb-false hi v e }
 

@@ -18,7 +18,7 @@ use Rattle.case.specs.Sound.{Sound}
 use Rattle.case.proofs.HeldBack.{fits_back}
 use Rattle.case.proofs.Shape.{held-sound}
 use Rattle.reader.specs.declared.Reading.{Reading}
-use Rattle.reader.specs.Answers.{reading_of}
+use Rattle.reader.specs.Answers.{Read}
 
 pub record Found (s : List ℕ) (r : Reading) : Type 0 where
   pub c : Case
@@ -40,33 +40,5 @@ module _ {s : List ℕ} {r : Reading} (f : Found s r) where
   pub case-sound : Sound r.case
   case-sound = subst Sound (sym f.holds) (held-sound f.c f.fits)
 
--- a record was read, and the struct holds its case
-pub record Read (s : List ℕ) (r : Reading) : Type 0 where
-  pub c : Case
-  pub is_read : read s ≡ next c r.length
-  pub holds : r.case ≡ held c
-
-pub was_read : (s : List ℕ) (r : Reading) → r ≡ reading_of (read s) → r.number ≡ 0 → Read s r
-unfolding reading_of
-was_read s r e z = go (read s) refl e
-  where
-    go : (o : Out Case) → read s ≡ o → r ≡ reading_of o → Read s r
-    go (stop x p) g e =
-        let same : r.number ≡ x = ap (λ (q : Reading). q.number) e in
-        absurd (omega (arith, refusal-least s x p g))
-    go (next c i) g e =
-        let same : r.length ≡ i = ap (λ (q : Reading). q.length) e in
-        record { c = c; is_read = g ∙ ap (next c) (sym same); holds = ap (λ (q : Reading). q.case) e }
-
-pub found : (s : List ℕ) → Bytes s → (r : Reading) → r ≡ reading_of (read s) → r.number ≡ 0 → Found s r
-found s b r e z =
-    let R : Read s r = was_read s r e z in
-    record { c = R.c; is_read = R.is_read; holds = R.holds; fits = (readable s b R.c r.length R.is_read).fits }
-
-pub missed : (s : List ℕ) (r : Reading) → r ≡ reading_of (read s) → (r.number ≡ 0 → ⊥) → read s ≡ stop r.number r.place
-unfolding reading_of
-missed s r e z = go (read s) refl e
-  where
-    go : (o : Out Case) → read s ≡ o → r ≡ reading_of o → read s ≡ stop r.number r.place
-    go (stop x p) g e = g ∙ (λ i. stop (sym e i).number (sym e i).place)
-    go (next c j) g e = absurd (z (ap (λ (q : Reading). q.number) e))
+pub found : (s : List ℕ) → Bytes s → (r : Reading) → Read (read s) r → Found s r
+found s b r h = record { c = h.c; is_read = h.is_read; holds = h.holds; fits = (readable s b h.c r.length h.is_read).fits }

@@ -7,25 +7,20 @@ use native.Mathlib.Omega.{arith}
 use native.Mathlib.Nat.{mul-le-mul}
 use lib.Bits.{bit_or}
 use lib.ListN.{length, get_or, set, replicate, length-set, length-replicate}
-use borrow.Author.Tests.{le-leb, lt-leb}
 use mir.Syntax.{w64, w32}
 use mir.Val.{Fits}
 use Rattle.number.specs.Number.{read_number}
-use Rattle.number.specs.Reader.{stop, next, onward, unless, up_to, below, turns, refusal_of}
-use Rattle.number.specs.declared.Refusal.{Refusal}
-use Rattle.number.specs.declared.NumberRead.{NumberRead}
-use Rattle.number.specs.declared.NumberRead.TheVariants.{Number, Refused}
+use Rattle.number.specs.Reader.{stop, next, onward, up_to, turns}
 use Rattle.number.proofs.Laws.{read_within}
 use Rattle.number.proofs.Turns.{turns-none, turns-stop, turns_next}
+use Rattle.number.specs.declared.Refusal.{Refusal}
+use Rattle.std.specs.Prelude.{Result}
 use Rattle.model.specs.Limits.{most_events}
-use Rattle.model.specs.Record.{Rows, pair, rising_pair, next_pair, order}
+use Rattle.model.specs.Record.{Rows, rising_pair, next_pair, order}
 use Rattle.case.specs.Held.{pad}
 use Rattle.case.proofs.Pad.{pad_get, pad-put, pad-zeros}
-use Rattle.reader.specs.Answers.{Stores, Padded, pairs, Ran, in_row, pair_out}
-use Rattle.reader.specs.declared.PairRead.{PairRead}
-use Rattle.reader.specs.declared.PairRead.TheVariants as the
-use Rattle.reader.specs.declared.PlaceRead.{PlaceRead}
-use Rattle.reader.specs.declared.PlaceRead.TheVariants as place
+use Rattle.reader.specs.Answers.{Stores, Done, Padded, pairs, Ran, in_row, model_pair}
+use Rattle.reader.specs.declared.Pair as code
 use Rattle.bits.specs.Bit.{width}
 use Rattle.reader.proofs.Forward.{gone, forward_rising_pair}
 
@@ -40,43 +35,24 @@ rank-small k a b h i =
     let p : a * k ≤ most_events * most_events = mul-le-mul l h in
     omega (arith, i.second)
 
-module _ (s : List ℕ) (at k least : ℕ) where
-  pub no_first : (r₁ : NumberRead) (f : Refusal) (x p : ℕ)
-      → r₁ ≡ read_number s at (k - 1) → r₁ ≡ Refused x p → f ≡ refusal_of r₁ → pair_out (the.Refused f) ≡ rising_pair k least s at
-  unfolding rising_pair unless pair up_to below refusal_of
-  no_first r₁ f x p e₁ u₁ g = rw (g, ← e₁, u₁)
+-- the two numbers of a pair
+module _ (s : List ℕ) (at k a p₁ b p₂ : ℕ) (e₁ : next a p₁ ≡ read_number s at (k - 1)) (e₂ : next b p₂ ≡ read_number s p₁ (k - 1)) (z : 0 < k) (h : k ≤ most_events) where
+  both_in : In k a b
+  both_in = record {
+    first = omega (arith, read_within s at (k - 1) a p₁ (sym e₁));
+    second = omega (arith, read_within s p₁ (k - 1) b p₂ (sym e₂));
+  }
 
-  module _ (r₁ : NumberRead) (a p₁ : ℕ) (e₁ : r₁ ≡ read_number s at (k - 1)) (u₁ : r₁ ≡ Number a p₁) where
-    pub no_second : (r₂ : NumberRead) (f : Refusal) (x p : ℕ)
-        → r₂ ≡ read_number s p₁ (k - 1) → r₂ ≡ Refused x p → f ≡ refusal_of r₂ → pair_out (the.Refused f) ≡ rising_pair k least s at
-    unfolding rising_pair unless pair up_to below refusal_of
-    no_second r₂ f x p e₂ u₂ g = rw (g, ← e₁, u₁, ← e₂, u₂)
+  pub row_fits : Fits w64 (a * k)
+  row_fits = record { fits = omega (arith, rank-small k a b h both_in) }
 
-    module _ (r₂ : NumberRead) (b p₂ : ℕ) (e₂ : r₂ ≡ read_number s p₁ (k - 1)) (u₂ : r₂ ≡ Number b p₂) where
-      pub rising : least ≤ a * k + b → pair_out (the.Pair a b p₂) ≡ rising_pair k least s at
-      unfolding rising_pair unless pair up_to below
-      rising l = rw (← e₁, u₁, ← e₂, u₂, le-leb least (a * k + b) l)
-
-      pub falling : a * k + b < least → (f : Refusal) → (f.number ≡ 4) × (f.place ≡ at) → pair_out (the.Refused f) ≡ rising_pair k least s at
-      unfolding rising_pair unless pair up_to below
-      falling l f t = rw (t.0, t.1, ← e₁, u₁, ← e₂, u₂, lt-leb least (a * k + b) l)
-
-      both_in : 0 < k → In k a b
-      both_in z = record {
-        first = omega (arith, read_within s at (k - 1) a p₁ (sym e₁ ∙ u₁));
-        second = omega (arith, read_within s p₁ (k - 1) b p₂ (sym e₂ ∙ u₂));
-      }
-
-      pub row_fits : 0 < k → k ≤ most_events → Fits w64 (a * k)
-      row_fits z h = record { fits = omega (arith, rank-small k a b h (both_in z)) }
-
-      pub rank-fits : 0 < k → k ≤ most_events → Fits w64 (a * k + b)
-      rank-fits z h = record { fits = omega (arith, rank-small k a b h (both_in z)) }
+  pub rank-fits : Fits w64 (a * k + b)
+  rank-fits = record { fits = omega (arith, rank-small k a b h both_in) }
 
 -- what is read as a pair is in range
-pub pair_in : (s : List ℕ) (at k least a b q : ℕ) (r : PairRead) → r ≡ the.Pair a b q → pair_out r ≡ rising_pair k least s at → 0 < k → In k a b
-pair_in s at k least a b q r u e z =
-    let g = gone (forward_rising_pair {s = s} k least) at (record { a = a; b = b }) q (sym e ∙ ap pair_out u) in
+pub pair_in : (s : List ℕ) (at k least : ℕ) (q : code.Pair) (p : ℕ) → next (model_pair q) p ≡ rising_pair k least s at → 0 < k → In k q.a q.b
+pair_in s at k least q p e z =
+    let g = gone (forward_rising_pair {s = s} k least) at (model_pair q) p (sym e) in
     record { first = omega (arith, g.holds.0.0); second = omega (arith, g.holds.0.1) }
 
 -- squares
@@ -111,18 +87,21 @@ pub record Pairing (s : List ℕ) (at k count : ℕ) (array₀ array : List ℕ)
   pub few : left ≤ k * k
   pub same : onward (λ o p. next o.rows p) (turns left (next_pair k) (record { least = least; rows = rows }) s place) ≡ pairs k count s at
 
-module _ (s : List ℕ) (at k : ℕ) (r₁ : NumberRead) (e₁ : r₁ ≡ read_number s at (k * k)) where
-  pub no_count : (f : Refusal) (x p : ℕ) (array : List ℕ) → r₁ ≡ Refused x p → f ≡ refusal_of r₁ → Stores (Padded most_events array) (order k s at) (place.Refused f)
-  unfolding order up_to refusal_of
-  no_count f x p array u₁ g = rw (g, ← e₁, u₁) refl
+module _ (s : List ℕ) (at k : ℕ) where
+  pub no_count : (x p : ℕ) → stop x p ≡ read_number s at (k * k) → order k s at ≡ stop x p
+  unfolding order up_to
+  no_count x p e = rw (← e)
 
-  module _ (count p : ℕ) (u₁ : r₁ ≡ Number count p) where
+  module _ (count p : ℕ) (e₁ : next count p ≡ read_number s at (k * k)) where
     pub count_in : count ≤ k * k
-    count_in = read_within s at (k * k) count p (sym e₁ ∙ u₁)
+    count_in = read_within s at (k * k) count p (sym e₁)
 
-    pub whole-order : (r : PlaceRead) (array : List ℕ) → Stores (Padded most_events array) (pairs k count s p) r → Stores (Padded most_events array) (order k s at) r
+    order_is : order k s at ≡ pairs k count s p
     unfolding order up_to pairs
-    whole-order r array h = rw (← e₁, u₁) h
+    order_is = rw (← e₁)
+
+    pub whole-order : (r : Result ℕ Refusal) (array : List ℕ) → Stores (Padded most_events array) (pairs k count s p) r → Stores (Padded most_events array) (order k s at) r
+    whole-order r array h = rw order_is h
 
 module _ (s : List ℕ) (at k count : ℕ) (array₀ : List ℕ) where
   pub begun : (k ≤ most_events) × (count ≤ k * k) → array₀ ≡ replicate most_events 0 → Pairing s at k count array₀ array₀ at 0 count
@@ -139,8 +118,12 @@ module _ (s : List ℕ) (at k count : ℕ) (array₀ : List ℕ) where
   }
 
   module _ (array : List ℕ) (p₀ least left : ℕ) (h : Pairing s at k count array₀ array p₀ least left) where
-    pub all_read : left ≤ 0 → Stores (Padded most_events array) (pairs k count s at) (place.Next p₀)
-    all_read l = rw (← h.same, turns-none (next_pair k) s left (record { least = least; rows = h.rows }) p₀ l) (refl, record { stored = h.stored; long = omega (arith, h.size, h.small) })
+    pub all_read : left ≤ 0 → Done (Padded most_events array) (pairs k count s at) p₀
+    all_read l = record {
+      what = h.rows;
+      is = rw (← h.same, turns-none (next_pair k) s left (record { least = least; rows = h.rows }) p₀ l);
+      stored = record { stored = h.stored; long = omega (arith, h.size, h.small) };
+    }
 
     module _ (l : 0 < left) where
       pub some-events : 0 < k
@@ -150,16 +133,19 @@ module _ (s : List ℕ) (at k count : ℕ) (array₀ : List ℕ) where
           go zero f = absurd (omega (arith, f))
           go (suc k) f = omega arith
 
-      pub refusal : (r : PairRead) (f : Refusal) → pair_out r ≡ rising_pair k least s p₀ → r ≡ the.Refused f
-          → Stores (Padded most_events array) (pairs k count s at) (place.Refused f)
+      pub refusal : (x p : ℕ) → stop x p ≡ rising_pair k least s p₀ → pairs k count s at ≡ stop x p
       unfolding next_pair
-      refusal r f g u =
-          let w : rising_pair k least s p₀ ≡ stop f.number f.place = sym g ∙ ap pair_out u in
-          rw (← h.same, turns-stop (next_pair k) s left (record { least = least; rows = h.rows }) p₀ f.number f.place l (rw w)) refl
+      refusal x p g = rw (← h.same, turns-stop (next_pair k) s left (record { least = least; rows = h.rows }) p₀ x p l (rw (← g)))
 
-      module _ (r : PairRead) (a b p : ℕ) (g : pair_out r ≡ rising_pair k least s p₀) (u : r ≡ the.Pair a b p) where
+      module _ (q : code.Pair) (p : ℕ) (g : next (model_pair q) p ≡ rising_pair k least s p₀) where
+        abbrev a : ℕ
+        a = q.a
+
+        abbrev b : ℕ
+        b = q.b
+
         in_rows : In k a b
-        in_rows = pair_in s p₀ k least a b p r u g some-events
+        in_rows = pair_in s p₀ k least q p g some-events
 
         pub place_in : a < length array
         place_in = omega (arith, in_rows.first, h.small, h.room)
@@ -183,7 +169,7 @@ module _ (s : List ℕ) (at k count : ℕ) (array₀ : List ℕ) where
           pub one-run : v ≡ bit_or (get_or array a 0) (2 ^ b) → Pairing s at k count array₀ (set array a v') p' (a * k + low) left'
           unfolding next_pair
           one-run ev =
-              let w : rising_pair k least s p₀ ≡ next (record { a = a; b = b }) p = sym g ∙ ap pair_out u in
+              let w : rising_pair k least s p₀ ≡ next (record { a = a; b = b }) p = sym g in
               let i : a < length h.rows = omega (arith, in_rows.first, h.size) in
               let old : v ≡ bit_or (get_or h.rows a 0) (2 ^ b) = rw (ev, h.stored, pad_get most_events h.rows a i) in
               let z : a * k + b + 1 ≡ a * k + (b + 1) = omega arith in

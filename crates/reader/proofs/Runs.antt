@@ -16,16 +16,14 @@ use mir.Syntax.{w64}
 use mir.Val.{Fits}
 use Rattle.number.specs.Number.{read_number, finish, groups}
 use Rattle.number.specs.Reader.{next, unless, up_to, below}
-use Rattle.number.specs.declared.NumberRead.TheVariants.{Number}
 use Rattle.number.proofs.Groups.{read_last}
 use Rattle.number.proofs.Turns.{turns_next}
 use Rattle.model.specs.Limits.{most_events}
 use Rattle.model.specs.Record.{Rows, pair, rising_pair, with_pair, next_pair}
-use Rattle.reader.specs.Answers.{at_once, follows_at, Ran, Rose, in_row, pair_out}
-use Rattle.reader.specs.declared.PairRead.TheVariants as the
+use Rattle.reader.specs.Answers.{at_once, follows_at, Ran, Rose, in_row}
 
 -- a byte below 128 and within the limit is a number by itself
-one_byte : (s : List ℕ) (at limit : ℕ) → at < length s → get_or s at 0 < 128 → get_or s at 0 ≤ limit → read_number s at limit ≡ Number (get_or s at 0) (at + 1)
+one_byte : (s : List ℕ) (at limit : ℕ) → at < length s → get_or s at 0 < 128 → get_or s at 0 ≤ limit → read_number s at limit ≡ next (get_or s at 0) (at + 1)
 unfolding read_number finish
 one_byte s at limit i h l = rw (read_last 0 s at i groups (omega arith) h (omega arith), le-ltb limit (get_or s at 0) l)
 
@@ -35,8 +33,8 @@ two_bytes : (s : List ℕ) (at k least a b : ℕ) → k ≤ most_events → at +
     → rising_pair k least s at ≡ next (record { a = a; b = b }) (at + 1 + 1)
 unfolding rising_pair unless pair up_to below
 two_bytes s at k least a b m i ea eb ha hb l =
-    let e₁ : read_number s at (k - 1) ≡ Number a (at + 1) = rw (← ea) (one_byte s at (k - 1) (omega arith) (omega arith) (omega arith)) in
-    let e₂ : read_number s (at + 1) (k - 1) ≡ Number b (at + 1 + 1) = rw (← eb) (one_byte s (at + 1) (k - 1) (omega arith) (omega arith) (omega arith)) in
+    let e₁ : read_number s at (k - 1) ≡ next a (at + 1) = rw (← ea) (one_byte s at (k - 1) (omega arith) (omega arith) (omega arith)) in
+    let e₂ : read_number s (at + 1) (k - 1) ≡ next b (at + 1 + 1) = rw (← eb) (one_byte s (at + 1) (k - 1) (omega arith) (omega arith) (omega arith)) in
     rw (e₁, e₂, le-leb least (a * k + b) l)
 
 -- the order so far with one more pair of row a
@@ -92,20 +90,6 @@ next_of s at a low left e =
       first = eqb-true (get_or s at 0) a (and_l (eqb (get_or s at 0) a) _ both);
       second = leb-true low (get_or s (at + 1) 0) (and_r (eqb (get_or s at 0) a) _ both);
     }
-
--- the ways through the test
-module _ (s : List ℕ) (at a low left : ℕ) where
-  pub none-follows : left ≤ 0 → false ≡ follows_at s at a low left
-  unfolding follows_at
-  none-follows l = rw (le-ltb 0 left l)
-
-  pub other_row : 0 < left → (x : ℕ) → (x ≡ get_or s at 0) × (x < 256) → (x ≡ a → ⊥) → false ≡ follows_at s at a low left
-  unfolding follows_at
-  other_row l x h n = rw (lt-ltb 0 left l, ne_eqb (get_or s at 0) a (λ e. n (h.0 ∙ e)))
-
-  pub this_row : 0 < left → (x y : ℕ) → (x ≡ get_or s at 0) × (x < 256) → x ≡ a → (y ≡ get_or s (at + 1) 0) × (y < 256) → leb low y ≡ follows_at s at a low left
-  unfolding follows_at
-  this_row l x y h e g = rw (lt-ltb 0 left l, eq-eqb (get_or s at 0) a (sym h.0 ∙ e), g.0)
 
 -- the pairs taken so far, and room in the bytes for those to come
 pub record Rising (s : List ℕ) (a at low₀ row₀ most p low row left : ℕ) : Type 0 where
@@ -165,13 +149,6 @@ module _ (s : List ℕ) (a at low₀ row₀ most p low row left : ℕ) (h : Risi
       room = omega (arith, h.room);
       size = h.size;
     }
-
--- whether as many pairs again are tried
-pub none_was_missed : (missed n : ℕ) → missed ≡ 0 → leb at_once n ≡ (eqb missed 0 && leb at_once n)
-none_was_missed missed n e = rw (eq-eqb missed 0 e)
-
-pub one_was_missed : (missed n : ℕ) → (missed ≡ 0 → ⊥) → false ≡ (eqb missed 0 && leb at_once n)
-one_was_missed missed n e = rw (ne_eqb missed 0 e)
 
 -- the run so far, where its events are below k, and room in the bytes for its pairs to come
 pub record Running (s : List ℕ) (k a at low₀ row₀ left₀ last p low row left missed : ℕ) : Type 0 where
@@ -233,18 +210,14 @@ module _ (s : List ℕ) (k a at low₀ row₀ left₀ last p low row left missed
       }
 
 -- a pair that stands in two bytes
-module _ (s : List ℕ) (at k least m : ℕ) (z : m ≡ 0) (room : (1 - m) * 2 ≤ length s - at) where
-  pair-second : at + 1 < length s
-  pair-second = omega arith
+pub pair_at_once : (s : List ℕ) (at k least m a b : ℕ) → m ≡ 0 → (1 - m) * 2 ≤ length s - at → k ≤ most_events → a ≡ get_or s at 0 → b ≡ get_or s (at + 1) 0
+    → a < k → b < k → least ≤ a * k + b → next (record { a = a; b = b }) (at + 2) ≡ rising_pair k least s at
+pair_at_once s at k least m a b z room h ea eb la lb l =
+    let q : at + 1 + 1 ≡ at + 2 = omega arith in
+    sym (two_bytes s at k least a b h (omega arith) (sym ea) (sym eb) la lb l ∙ ap (λ (p : ℕ). next (record { a = a; b = b }) p) q)
 
-  pub pair_at_once : (a b : ℕ) → (0 < k) × (k ≤ most_events) → a ≡ get_or s at 0 → b ≡ get_or s (at + 1) 0 → a < k → b < k → least ≤ a * k + b
-      → pair_out (the.Pair a b (at + 2)) ≡ rising_pair k least s at
-  pair_at_once a b h ea eb la lb l =
-      let q : at + 1 + 1 ≡ at + 2 = omega arith in
-      sym (two_bytes s at k least a b h.1 pair-second (sym ea) (sym eb) la lb l ∙ ap (λ (p : ℕ). next (record { a = a; b = b }) p) q)
+pub rank_row : (k a : ℕ) → k ≤ most_events → a < k → Fits w64 (a * k)
+rank_row k a h l = let w : a ≤ most_events = omega arith in let p : a * k ≤ most_events * most_events = mul-le-mul w h in record { fits = omega arith }
 
-pub rank_row : (k a : ℕ) → (0 < k) × (k ≤ most_events) → a < k → Fits w64 (a * k)
-rank_row k a h l = let w : a ≤ most_events = omega (arith, h.1) in let p : a * k ≤ most_events * most_events = mul-le-mul w h.1 in record { fits = omega arith }
-
-pub rank_both : (k a b : ℕ) → (0 < k) × (k ≤ most_events) → a < k → b < k → Fits w64 (a * k + b)
-rank_both k a b h l m = let w : a ≤ most_events = omega (arith, h.1) in let p : a * k ≤ most_events * most_events = mul-le-mul w h.1 in record { fits = omega (arith, h.1) }
+pub rank_both : (k a b : ℕ) → k ≤ most_events → a < k → b < k → Fits w64 (a * k + b)
+rank_both k a b h l m = let w : a ≤ most_events = omega arith in let p : a * k ≤ most_events * most_events = mul-le-mul w h in record { fits = omega arith }

@@ -14,46 +14,21 @@ use Rattle.bits.proofs.Bits.{bit-zero, bit_with}
 use lib.Bits.{bit_or}
 use Rattle.reader.proofs.Forward.{gone, forward_unlisted}
 use Rattle.number.specs.Number.{read_number}
-use Rattle.number.specs.Reader.{stop, next, unless, up_to, below, number_out, refusal_of}
-use Rattle.number.specs.declared.Refusal.{Refusal}
-use Rattle.number.specs.declared.NumberRead.{NumberRead}
-use Rattle.number.specs.declared.NumberRead.TheVariants.{Number, Refused}
+use Rattle.number.specs.Reader.{stop, next}
 use Rattle.number.proofs.Laws.{read_within}
 use Rattle.model.specs.Limits.{most_events}
 use Rattle.model.specs.Record.{member, unlisted, write_order}
 use Rattle.case.specs.Held.{pad}
-use Rattle.reader.specs.Answers.{Stores, Padded}
-use Rattle.reader.specs.declared.PlaceRead.TheVariants as place
+use Rattle.reader.specs.Answers.{Done, Padded}
 use Rattle.case.specs.Stores.{store_at}
 use Rattle.case.proofs.Pad.{pad-set}
 use Rattle.case.proofs.WriteOrders.{member-snoc}
 use Rattle.finite.proofs.Tests.{count-le}
-use Rattle.reader.proofs.Filling.{Filling, filling_begun, filling_all, filling_stop, filling_next, stores-map}
+use Rattle.reader.proofs.Filling.{Filling, filling_begun, filling_all, filling_stop, filling_next, done-map}
 
-module _ (s : List ℕ) (at k x : ℕ) (ks ts : List ℕ) (listed : ℕ) where
-  pub no_number : (r : NumberRead) (y p : ℕ) → r ≡ read_number s at (k - 1) → r ≡ Refused y p → number_out r ≡ unlisted k (store_at ks ts x) (bit listed) s at
-  unfolding unlisted unless below up_to
-  no_number r y p e u = rw (← e, u)
-
-  module _ (r : NumberRead) (v p : ℕ) (e : r ≡ read_number s at (k - 1)) (u : r ≡ Number v p) where
-    pub event-small : 0 < k → k ≤ most_events → v < most_events
-    event-small z h = omega (arith, read_within s at (k - 1) v p (sym e ∙ u))
-
-    pub bit-small : 0 < k → k ≤ most_events → v < width
-    bit-small z h = omega (arith, event-small z h)
-
-    module _ (t : Bool) (et : t ≡ store_at ks ts x v) where
-      pub not_mine : t ≡ false → stop 4 at ≡ unlisted k (store_at ks ts x) (bit listed) s at
-      unfolding unlisted unless below up_to
-      not_mine y = rw (← e, u, ← et, y)
-
-      pub is_listed : (b : Bool) → b ≡ bit listed v → t ≡ true → b ≡ true → stop 4 at ≡ unlisted k (store_at ks ts x) (bit listed) s at
-      unfolding unlisted unless below up_to
-      is_listed b eb y z = rw (← e, u, ← et, y, ← eb, z)
-
-      pub is_unlisted : (b : Bool) → b ≡ bit listed v → t ≡ true → b ≡ false → next v p ≡ unlisted k (store_at ks ts x) (bit listed) s at
-      unfolding unlisted unless below up_to
-      is_unlisted b eb y z = rw (← e, u, ← et, y, ← eb, z)
+module _ (s : List ℕ) (at k v p : ℕ) (e : next v p ≡ read_number s at (k - 1)) where
+  pub event-small : 0 < k → k ≤ most_events → v < most_events
+  event-small z h = omega (arith, read_within s at (k - 1) v p (sym e))
 
 -- the stores read stand in the array, and are marked
 pub record Listed (array : List ℕ) (marks : ℕ) (before : List ℕ) : Type 0 where
@@ -81,9 +56,9 @@ module _ (s : List ℕ) (at k x : ℕ) (ks ts array₀ : List ℕ) (total : ℕ)
   }
 
   module _ (array : List ℕ) (p₀ marks j : ℕ) (h : Writing s at k x ks ts array₀ total array p₀ marks j) where
-    pub writing_all : total ≤ j → Stores (Padded most_events array) (write_order k (store_at ks ts x) s at) (place.Next p₀)
+    pub writing_all : total ≤ j → Done (Padded most_events array) (write_order k (store_at ks ts x) s at) p₀
     writing_all l =
-        stores-map (Listed array marks) (Padded most_events array) (λ a t. record { stored = t.stored; long = t.long }) (write_order k (store_at ks ts x) s at) (place.Next p₀)
+        done-map (Listed array marks) (Padded most_events array) (λ a t. record { stored = t.stored; long = t.long }) (write_order k (store_at ks ts x) s at) p₀
         (filling_all _ _ _ _ _ _ _ h.filling l)
 
     module _ (l : j < total) where
@@ -93,38 +68,34 @@ module _ (s : List ℕ) (at k x : ℕ) (ks ts array₀ : List ℕ) (total : ℕ)
       pub writing_place : j < length array
       writing_place = omega (arith, h.counted, h.small, h.room)
 
-      module _ (r : NumberRead) (g : number_out r ≡ unlisted k (store_at ks ts x) (bit marks) s p₀) where
-        same_test : (before : List ℕ) → Listed array marks before → unlisted k (store_at ks ts x) (bit marks) ≡ unlisted k (store_at ks ts x) (λ e. member e before)
-        same_test before t = ap (unlisted k (store_at ks ts x)) (λ i e. t.marked e i)
+      same_test : (before : List ℕ) → Listed array marks before → unlisted k (store_at ks ts x) (bit marks) ≡ unlisted k (store_at ks ts x) (λ e. member e before)
+      same_test before t = ap (unlisted k (store_at ks ts x)) (λ i e. t.marked e i)
 
-        pub writing_stop : (S : List ℕ → Type 0) (f : Refusal) (y p : ℕ) → r ≡ Refused y p → f ≡ refusal_of r → Stores S (write_order k (store_at ks ts x) s at) (place.Refused f)
-        unfolding refusal_of
-        writing_stop S f y p u ef =
-            rw (ef, u) (filling_stop _ _ _ _ _ _ _ h.filling l S y p
-            (λ before c t. ap (λ q. q s p₀) (sym (same_test before t)) ∙ sym g ∙ ap number_out u))
+      pub writing_stop : (y p : ℕ) → stop y p ≡ unlisted k (store_at ks ts x) (bit marks) s p₀ → write_order k (store_at ks ts x) s at ≡ stop y p
+      writing_stop y p g = filling_stop _ _ _ _ _ _ _ h.filling l y p (λ before c t. ap (λ q. q s p₀) (sym (same_test before t)) ∙ sym g)
 
-        module _ (v p : ℕ) (u : r ≡ Number v p) where
-          store_below : v < k
-          store_below = omega (arith, writing_some, (gone (forward_unlisted {s = s} k (store_at ks ts x) (bit marks)) p₀ v p (sym g ∙ ap number_out u)).holds.0)
+      module _ (v p : ℕ) (g : next v p ≡ unlisted k (store_at ks ts x) (bit marks) s p₀) where
+        store_below : v < k
+        store_below = omega (arith, writing_some, (gone (forward_unlisted {s = s} k (store_at ks ts x) (bit marks)) p₀ v p (sym g)).holds.0)
 
-          pub writing_byte : Fits w8 v
-          writing_byte = record { fits = omega (arith, store_below, h.small) }
+        pub writing_byte : Fits w8 v
+        writing_byte = record { fits = omega (arith, store_below, h.small) }
 
-          pub writing_bit : v < width
-          writing_bit = omega (arith, store_below, h.small)
+        pub writing_bit : v < width
+        writing_bit = omega (arith, store_below, h.small)
 
-          pub writing_next : (marks' : ℕ) → marks' ≡ bit_or marks (2 ^ v) → Writing s at k x ks ts array₀ total (set array j v) p marks' (j + 1)
-          writing_next marks' m = record {
-            filling = filling_next _ _ _ _ _ _ _ h.filling l v p
-                (λ before c t. ap (λ q. q s p₀) (sym (same_test before t)) ∙ sym g ∙ ap number_out u)
-                (Listed (set array j v) marks')
-                (λ before c t. record {
-                  stored = rw t.stored (pad-set most_events before j v c (omega (arith, h.counted, h.small)));
-                  long = simp length-append (omega (arith, c, h.counted, h.small));
-                  marked = λ i. ap (λ w. bit w i) m ∙ bit_with marks v i ∙ rw (t.marked i) (sym (member-snoc i before v));
-                });
-            counted = h.counted;
-            small = h.small;
-            room = length-set array j v ∙ h.room;
-            kept = length-set array j v ∙ h.kept;
-          }
+        pub writing_next : (marks' : ℕ) → marks' ≡ bit_or marks (2 ^ v) → Writing s at k x ks ts array₀ total (set array j v) p marks' (j + 1)
+        writing_next marks' m = record {
+          filling = filling_next _ _ _ _ _ _ _ h.filling l v p
+              (λ before c t. ap (λ q. q s p₀) (sym (same_test before t)) ∙ sym g)
+              (Listed (set array j v) marks')
+              (λ before c t. record {
+                stored = rw t.stored (pad-set most_events before j v c (omega (arith, h.counted, h.small)));
+                long = simp length-append (omega (arith, c, h.counted, h.small));
+                marked = λ i. ap (λ w. bit w i) m ∙ bit_with marks v i ∙ rw (t.marked i) (sym (member-snoc i before v));
+              });
+          counted = h.counted;
+          small = h.small;
+          room = length-set array j v ∙ h.room;
+          kept = length-set array j v ∙ h.kept;
+        }

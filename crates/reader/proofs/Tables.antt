@@ -5,18 +5,15 @@ use mathlib.Core.Path.{◌≡◌, refl, ap, ◌∙◌}
 use mathlib.Core.List.{List, [], ◌∷◌, ◌++◌}
 use native.Mathlib.Omega.{arith}
 use lib.ListN.{length, take, drop, replicate, length-append, length-take, length-drop, length-replicate}
-use Rattle.number.specs.Reader.{Out, Reader, turns, another, times}
+use Rattle.number.specs.Reader.{Out, Reader, stop, turns, another, times}
 use Rattle.model.specs.Limits.{most_threads, most_addresses, most_events}
 use Rattle.model.specs.Record.{order, write_order, next_write_order}
 use Rattle.case.specs.Held.{pad, rows_of}
 use Rattle.case.specs.Stores.{store_at}
 use Rattle.case.proofs.Pad.{length-pad, rows_of-snoc, part-zeros, part-stored}
-use Rattle.reader.specs.Answers.{Stores, Padded, Tabled}
-use Rattle.number.specs.declared.Refusal.{Refusal}
-use Rattle.reader.specs.declared.PlaceRead.{PlaceRead}
-use Rattle.reader.specs.declared.PlaceRead.TheVariants as place
+use Rattle.reader.specs.Answers.{Done, Padded, Tabled}
 use borrow.Rule.Slice.PartMut.{put_mid}
-use Rattle.reader.proofs.Filling.{Filling, filling_begun, filling_all, filling_stop, filling_next, stop_of, next_of}
+use Rattle.reader.proofs.Filling.{Filling, filling_begun, filling_all, filling_stop, filling_next}
 
 -- with a list stored in its next part a table has that list too
 module _ (total : ℕ) (array : List ℕ) (rs : List (List ℕ)) (a w : ℕ) (h : Tabled total array rs) (ea : length rs * most_events ≡ a) (ew : w ≡ most_events) (fits : a + most_events ≤ total) where
@@ -48,7 +45,7 @@ table-begun most r s at n array₀ z =
     }
 
 module _ (most : ℕ) (r : ℕ → Reader (List ℕ)) (all : Out (List (List ℕ))) (s : List ℕ) (n : ℕ) (array₀ array : List ℕ) (p₀ p : ℕ) (h : Table most r all s n array₀ array p₀ p) where
-  pub table-all : n ≤ p → Stores (Tabled (most * most_events) array) all (place.Next p₀)
+  pub table-all : n ≤ p → Done (Tabled (most * most_events) array) all p₀
   table-all l = filling_all _ _ _ _ _ _ _ h.filling l
 
   module _ (l : p < n) where
@@ -57,13 +54,12 @@ module _ (most : ℕ) (r : ℕ → Reader (List ℕ)) (all : Out (List (List ℕ
         let in_room : p * most_events + most_events ≤ most * most_events = omega arith in
         part-zeros (most * most_events) most_events array _ (p * most_events) w h.filling.stored.stored (h.filling.stored.long ∙ rw h.filling.count) e in_room
 
-    module _ (last : List ℕ) (res : PlaceRead) (g : Stores (Padded most_events last) (r p s p₀) res) where
-      pub table-stop : (S : List (List ℕ) → Type 0) (f : Refusal) → res ≡ place.Refused f → Stores S all res
-      table-stop S f u = rw u (filling_stop _ _ _ _ _ _ _ h.filling l S f.number f.place (λ rs c _. rw c (stop_of _ _ res f g u)))
+    pub table-stop : (x q : ℕ) → r p s p₀ ≡ stop x q → all ≡ stop x q
+    table-stop x q g = filling_stop _ _ _ _ _ _ _ h.filling l x q (λ rs c _. rw c g)
 
-      pub table-next : n ≤ most → (q w : ℕ) → res ≡ place.Next q → w ≡ most_events → Table most r all s n array₀ (put_mid (p * most_events) w array last) q (p + 1)
-      table-next b q w u e =
-          let d = next_of (Padded most_events last) (r p s p₀) res q g u in
+    module _ (last : List ℕ) (q : ℕ) (d : Done (Padded most_events last) (r p s p₀) q) where
+      pub table-next : n ≤ most → (w : ℕ) → w ≡ most_events → Table most r all s n array₀ (put_mid (p * most_events) w array last) q (p + 1)
+      table-next b w e =
           let in_room : p * most_events + most_events ≤ most * most_events = omega arith in
           let lp : length last ≡ most_events = ap length d.stored.stored ∙ length-pad most_events d.what d.stored.long in
           let size : length (put_mid (p * most_events) w array last) ≡ length array =
@@ -88,14 +84,13 @@ pub first_there : (array₀ : List ℕ) → array₀ ≡ replicate (most_threads
 first_there array₀ z = omega (arith, ap length z, length-replicate {A = ℕ} (most_threads * most_events) 0)
 
 module _ (s : List ℕ) (at n k : ℕ) (array₀ : List ℕ) (z : array₀ ≡ replicate (most_threads * most_events) 0) (b : (1 ≤ n) × (n ≤ most_threads)) where
-  module _ (last : List ℕ) (res : PlaceRead) (g : Stores (Padded most_events last) (order k s at) res) where
-    pub first-stop : (S : List (List ℕ) → Type 0) (f : Refusal) → res ≡ place.Refused f → Stores S (times n (order k) s at) res
-    first-stop S f u = table-stop _ _ _ _ _ _ _ _ 0 (orders-begun s at n k array₀ z) b.0 last res g S f u
+  pub first-stop : (x q : ℕ) → order k s at ≡ stop x q → times n (order k) s at ≡ stop x q
+  first-stop x q g = table-stop _ _ _ _ _ _ _ _ 0 (orders-begun s at n k array₀ z) b.0 x q g
 
-    pub first-read : (q w : ℕ) → res ≡ place.Next q → w ≡ most_events → Orders s at n k (put_mid 0 w array₀ last) (put_mid 0 w array₀ last) q 1
-    first-read q w u e =
-        let t = table-next _ _ _ _ _ _ _ _ 0 (orders-begun s at n k array₀ z) b.0 last res g b.1 q w u e in
-        record { filling = t.filling; room = t.room; kept = refl }
+  pub first-read : (last : List ℕ) (q w : ℕ) → Done (Padded most_events last) (order k s at) q → w ≡ most_events → Orders s at n k (put_mid 0 w array₀ last) (put_mid 0 w array₀ last) q 1
+  first-read last q w d e =
+      let t = table-next _ _ _ _ _ _ _ _ 0 (orders-begun s at n k array₀ z) b.0 last q d b.1 w e in
+      record { filling = t.filling; room = t.room; kept = refl }
 
 -- the addresses' write orders
 abbrev pub Writes : (s : List ℕ) (at m k : ℕ) (ks ts array₀ array : List ℕ) (place x : ℕ) → Type 0

@@ -1,38 +1,38 @@
 -- What the code's answers say, in the model's terms.
 -- Assumes nothing.
-use Rattle.std.specs.Prelude.{ℕ, ◌-◌, ◌+◌, ◌*◌, ◌≤◌, ◌<◌, ◌≡◌, Bool, ◌&&◌, List, map, length, get_or, set, eqb, ltb, leb}
-use Rattle.number.specs.Reader.{Out, stop, next, Reader, give, ◌>>=◌, turns, up_to, below}
+use Rattle.std.specs.Prelude.{ℕ, ◌-◌, ◌+◌, ◌*◌, ◌≤◌, ◌<◌, ◌≡◌, Bool, ◌&&◌, List, map, length, get_or, set, eqb, ltb, leb, Result, Ok, Err}
+use Rattle.number.specs.Reader.{Out, stop, next, Reader, give, ◌>>=◌, turns, up_to, below, refused}
 use Rattle.number.specs.declared.Refusal.{Refusal}
 use Rattle.model.specs.Limits.{most_threads, most_addresses, most_events, most_dependencies, most_value, most_name}
 use Rattle.model.specs.Case.{Case, Event, Dependency}
 use Rattle.model.specs.Record.{Pair, Rows, Head, Listing, Rest, no_pairs, next_pair}
 use Rattle.model.specs.Answers.{Part}
-use Rattle.case.specs.Held.{held, empty_case, pad, rows_of}
-use Rattle.reader.specs.declared.Head as code
+use Rattle.case.specs.Held.{held, pad, rows_of}
+use Rattle.reader.specs.declared.Event as an_event
+use Rattle.reader.specs.declared.Link as a_link
+use Rattle.reader.specs.declared.Pair as a_pair
+use Rattle.reader.specs.declared.Head as a_head
 use Rattle.reader.specs.declared.Reading.{Reading}
 use Rattle.reader.specs.declared.NamePart.{NamePart}
-use Rattle.reader.specs.declared.EventRead.{EventRead}
-use Rattle.reader.specs.declared.EventRead.TheVariants as event
-use Rattle.reader.specs.declared.LinkRead.{LinkRead}
-use Rattle.reader.specs.declared.LinkRead.TheVariants as link
-use Rattle.reader.specs.declared.PairRead.{PairRead}
-use Rattle.reader.specs.declared.PairRead.TheVariants as pair
-use Rattle.reader.specs.declared.PlaceRead.{PlaceRead}
-use Rattle.reader.specs.declared.PlaceRead.TheVariants as place
-use Rattle.reader.specs.declared.CountRead.{CountRead}
-use Rattle.reader.specs.declared.CountRead.TheVariants as count
-use Rattle.reader.specs.declared.HeadRead.{HeadRead}
-use Rattle.reader.specs.declared.HeadRead.TheVariants as head
 
--- 01: the number and what goes with it; under a refusal the case is empty
-unfoldable pub reading_of : Out Case → Reading
-reading_of (stop x p) = record { number = x; place = p; length = 0; case = empty_case }
-reading_of (next c i) = record { number = 0; place = 0; length = i; case = held c }
+-- the case that was read, with all room beyond its counts zero, and its length
+pub record Read (o : Out Case) (r : Reading) : Type 0 where
+  pub c : Case
+  pub is_read : o ≡ next c r.length
+  pub holds : r.case ≡ held c
 
--- the same of a record that starts at a place: its length is counted from there
-unfoldable pub reading_from : ℕ → Out Case → Reading
-reading_from at (stop x p) = reading_of (stop x p)
-reading_from at (next c i) = reading_of (next c (i - at))
+-- 01: what reading answers, with the number and the place of a refusal
+abbrev pub ReadingOf : Out Case → Result Reading Refusal → Type 0
+ReadingOf o (Ok r) = Read o r
+ReadingOf o (Err e) = o ≡ refused e
+
+-- the length of a record that starts at a place is counted from there
+unfoldable pub counted_from : ℕ → Out Case → Out Case
+counted_from at (stop x p) = stop x p
+counted_from at (next c i) = next c (i - at)
+
+abbrev pub ReadingFrom : ℕ → Out Case → Result Reading Refusal → Type 0
+ReadingFrom at o r = ReadingOf (counted_from at o) r
 
 abbrev pub part_of : Part → NamePart
 part_of p = record { at = p.at; length = p.length }
@@ -45,32 +45,18 @@ access kind thread m = do
   value ← up_to most_value
   give (record { kind = kind; thread = thread; address = address; value = value })
 
-abbrev pub event_out : EventRead → Out Event
-event_out (event.Event e p) = next (record { kind = e.kind; thread = e.thread; address = e.address; value = e.value }) p
-event_out (event.Refused f) = stop f.number f.place
+-- what it is in the model's terms
+abbrev pub model_event : an_event.Event → Event
+model_event e = record { kind = e.kind; thread = e.thread; address = e.address; value = e.value }
 
-abbrev pub link_out : LinkRead → Out Dependency
-link_out (link.Link d p) = next (record { class = d.class; from = d.from; to = d.to }) p
-link_out (link.Refused f) = stop f.number f.place
+abbrev pub model_link : a_link.Link → Dependency
+model_link d = record { class = d.class; from = d.from; to = d.to }
 
-abbrev pub pair_out : PairRead → Out Pair
-pair_out (pair.Pair a b p) = next (record { a = a; b = b }) p
-pair_out (pair.Refused f) = stop f.number f.place
+abbrev pub model_pair : a_pair.Pair → Pair
+model_pair q = record { a = q.a; b = q.b }
 
-abbrev pub model_head : code.Head → Head
+abbrev pub model_head : a_head.Head → Head
 model_head h = record { edition = h.edition; n = h.threads; m = h.addresses }
-
-abbrev pub head_out : HeadRead → Out Head
-head_out (head.Head h p) = next (model_head h) p
-head_out (head.Refused f) = stop f.number f.place
-
-unfoldable pub refused_at : PlaceRead → Refusal
-refused_at (place.Next p) = record { number = 0; place = 0 }
-refused_at (place.Refused f) = f
-
-unfoldable pub refused_count : CountRead → Refusal
-refused_count (count.Count i p) = record { number = 0; place = 0 }
-refused_count (count.Refused f) = f
 
 -- the rows of an order, behind the count of its pairs
 unfoldable pub pairs : (k i : ℕ) → Reader (List ℕ)
@@ -105,15 +91,27 @@ pub record Rose (s : List ℕ) (a at low row most at' low' row' left' : ℕ) : T
   pub place : at' ≡ at + (most - left') * 2
   pub ran : (k more : ℕ) → (a < k) × (k ≤ most_events) → low' ≤ k → Ran s k a at low row (most + more) at' low' row' (left' + more)
 
+-- what was read up to the place p, and how it is stored
+pub record Done {A : Type 0} (Stored : A → Type 0) (o : Out A) (p : ℕ) : Type 0 where
+  pub what : A
+  pub is : o ≡ next what p
+  pub stored : Stored what
+
 -- A reader that stores what it reads: the place or the refusal is the model's, and what is stored is as Stored says
-abbrev pub Stores : {A : Type 0} → (A → Type 0) → Out A → PlaceRead → Type 0
-Stores Stored (stop x p) r = r ≡ place.Refused (record { number = x; place = p })
-Stores Stored (next a p) r = (r ≡ place.Next p) × Stored a
+abbrev pub Stores : {A : Type 0} → (A → Type 0) → Out A → Result ℕ Refusal → Type 0
+Stores Stored o (Ok p) = Done Stored o p
+Stores Stored o (Err e) = o ≡ refused e
 
 -- the same where the answer has a count too
-abbrev pub StoresCounted : {A : Type 0} → (A → ℕ) → (A → Type 0) → Out A → CountRead → Type 0
-StoresCounted number Stored (stop x p) r = r ≡ count.Refused (record { number = x; place = p })
-StoresCounted number Stored (next a p) r = (r ≡ count.Count (number a) p) × Stored a
+pub record Counted {A : Type 0} (number : A → ℕ) (Stored : A → Type 0) (o : Out A) (k p : ℕ) : Type 0 where
+  pub what : A
+  pub is : o ≡ next what p
+  pub number_is : k ≡ number what
+  pub stored : Stored what
+
+abbrev pub StoresCounted : {A : Type 0} → (A → ℕ) → (A → Type 0) → Out A → Result (ℕ × ℕ) Refusal → Type 0
+StoresCounted number Stored o (Ok r) = Counted number Stored o r.0 r.1
+StoresCounted number Stored o (Err e) = o ≡ refused e
 
 -- a list in an array of n places
 pub record Padded (n : ℕ) (array xs : List ℕ) : Type 0 where

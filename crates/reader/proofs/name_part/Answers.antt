@@ -3,8 +3,8 @@ use Rattle.reader.proofs.name_part.Goals as goal
 
 pub overflow_sub-result : goal.overflow_sub-result
 overflow_sub-result c =
-    search name_in_record
+    name_in_record _ _ c.in-Ok.ensures
 
-pub returns : goal.returns
-returns c =
-    search name-part_is
+pub returns-in-Ok : goal.returns-in-Ok
+returns-in-Ok c =
+    name-part_is _ _ c.in-Ok.ensures

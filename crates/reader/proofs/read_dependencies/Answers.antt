@@ -1,3 +1,4 @@
+use Rattle.std.proofs.lemmas.Result.{err_from_is_err_and}
 use Rattle.reader.proofs.Fields.{up_to_most}
 use Rattle.reader.proofs.Links.{first-edition, no_number, no_links_read, whole_links}
 use Rattle.reader.proofs.read_dependencies.Goals as goal
@@ -6,18 +7,20 @@ pub returns-then-not-is_second : goal.returns-then-not-is_second
 returns-then-not-is_second c =
     search first-edition
 
-pub returns-in_default : goal.returns-in_default
-returns-in_default c =
-    search no_number
+pub returns-in_err-count : goal.returns-in_err-count
+returns-in_err-count c =
+    let p = err_from_is_err_and c.from_residual.result c.from_residual.ensures.1 in
+    rw (p.1, p.2) (no_number _ _ _ _ _ _ c.is_second.ensures c.if-not-is_second.false _ _ c.in_err-count.ensures)
 
-pub read_links-links-requires-clause-count_le_most_dependencies : goal.read_links-links-requires-clause-count_le_most_dependencies
-read_links-links-requires-clause-count_le_most_dependencies c =
-    search up_to_most
+pub read_links-requires-clause-count_le_most_dependencies : goal.read_links-requires-clause-count_le_most_dependencies
+read_links-requires-clause-count_le_most_dependencies c =
+    up_to_most _ _ _ _ _ c.in_ok-count.ensures
 
-pub returns-in_default-links : goal.returns-in_default-links
-returns-in_default-links c =
-    search no_links_read
+pub returns-in_err-end : goal.returns-in_err-end
+returns-in_err-end c =
+    let p = err_from_is_err_and c.from_residual-in_err-end.result c.from_residual-in_err-end.ensures.1 in
+    rw (p.1, p.2) (no_links_read _ _ _ _ _ _ c.is_second.ensures c.if-not-is_second.false _ _ c.in_ok-count.ensures _ _ c.in_err-end.ensures)
 
 pub returns : goal.returns
 returns c =
-    search whole_links
+    whole_links _ _ _ _ _ _ c.is_second.ensures c.if-not-is_second.false _ _ c.in_ok-count.ensures _ _ _ _ c.in_ok-end.ensures

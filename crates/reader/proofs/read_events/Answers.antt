@@ -1,3 +1,5 @@
+use native.Mathlib.Omega.{arith}
+use Rattle.std.proofs.lemmas.Result.{err_from_is_err_and}
 use Rattle.reader.proofs.Filling.{filling_all}
 use Rattle.reader.proofs.Events.{begun, refusal, one_more}
 use Rattle.reader.proofs.read_events.Goals as goal
@@ -6,14 +8,15 @@ pub loop-e-init : goal.loop-e-init
 loop-e-init c =
     search begun
 
-pub returns-in-Refused : goal.returns-in-Refused
-returns-in-Refused c =
-    search refusal
+pub returns-in_err-event : goal.returns-in_err-event
+returns-in_err-event c =
+    let p = err_from_is_err_and c.from_residual.result c.from_residual.ensures.1 in
+    rw (p.1, p.2) (refusal _ _ _ _ _ _ _ _ _ _ _ _ c.loop-e.invariant (omega arith) _ _ c.in_err-event.ensures)
 
 pub loop-e-preserved : goal.loop-e-preserved
 loop-e-preserved c =
-    search one_more
+    one_more _ _ _ _ _ _ _ _ _ _ _ _ c.loop-e.invariant (omega arith) c.requires.count_le_most_events _ _ c.in_ok-event.ensures
 
 pub returns : goal.returns
 returns c =
-    search filling_all
+    filling_all _ _ _ _ _ _ _ c.loop-e.invariant (omega arith)

@@ -1,10 +1,6 @@
-use Prim.Native.Nat.{◌-◌}
 use Rattle.case.specs.Held.{good_at}
 use Rattle.reader.proofs.Links.{LinksFilled}
 use Rattle.reader.proofs.read_links.Given as goal
 
 abbrev pub invariant-loop-i : goal.invariant-loop-i
 invariant-loop-i l = LinksFilled l.bytes l.at l.k l.count (good_at l.k l.kinds l.owners) l.classes l.froms l.tos l.place l.least l.i
-
-abbrev pub decreases-loop-i : goal.decreases-loop-i
-decreases-loop-i l = l.count - l.i

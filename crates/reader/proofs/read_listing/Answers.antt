@@ -1,22 +1,26 @@
+use Rattle.std.proofs.lemmas.Result.{err_from_is_err_and}
 use Rattle.reader.proofs.Fields.{no_initials, no_count, no_events_read, whole-listing, up_to_most}
 use Rattle.reader.proofs.read_listing.Goals as goal
 
-pub returns-in_default : goal.returns-in_default
-returns-in_default c =
-    search no_initials
+pub returns-in_err-after_initials : goal.returns-in_err-after_initials
+returns-in_err-after_initials c =
+    let p = err_from_is_err_and c.from_residual.result c.from_residual.ensures.1 in
+    rw (p.1, p.2) (no_initials _ _ _ _ _ _ _ c.in_err-after_initials.ensures)
 
-pub returns-in_default-count : goal.returns-in_default-count
-returns-in_default-count c =
-    search no_count
+pub returns-in_err-count : goal.returns-in_err-count
+returns-in_err-count c =
+    let p = err_from_is_err_and c.from_residual-in_err-count.result c.from_residual-in_err-count.ensures.1 in
+    rw (p.1, p.2) (no_count _ _ _ _ _ _ _ c.in_ok-after_initials.ensures _ _ c.in_err-count.ensures)
 
-pub read_events-events-requires-clause-count_le_most_events : goal.read_events-events-requires-clause-count_le_most_events
-read_events-events-requires-clause-count_le_most_events c =
-    search up_to_most
+pub read_events-requires-clause-count_le_most_events : goal.read_events-requires-clause-count_le_most_events
+read_events-requires-clause-count_le_most_events c =
+    up_to_most _ _ _ _ _ c.in_ok-count.ensures
 
-pub returns-in_default-events : goal.returns-in_default-events
-returns-in_default-events c =
-    search no_events_read
+pub returns-in_err-end : goal.returns-in_err-end
+returns-in_err-end c =
+    let p = err_from_is_err_and c.from_residual-in_err-end.result c.from_residual-in_err-end.ensures.1 in
+    rw (p.1, p.2) (no_events_read _ _ _ _ _ _ _ c.in_ok-after_initials.ensures _ _ c.in_ok-count.ensures _ _ c.in_err-end.ensures)
 
 pub returns : goal.returns
 returns c =
-    search whole-listing
+    whole-listing _ _ _ _ _ _ _ c.in_ok-after_initials.ensures _ _ c.in_ok-count.ensures _ _ _ _ _ c.in_ok-end.ensures

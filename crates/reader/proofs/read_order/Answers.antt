@@ -1,3 +1,4 @@
+use Rattle.std.proofs.lemmas.Result.{err_from_is_err_and}
 use Rattle.reader.proofs.Orders.{square_fits_64, square_fits_32, no_count, count_in, whole-order}
 use Rattle.reader.proofs.read_order.Goals as goal
 
@@ -9,14 +10,15 @@ pub overflow_cast-k : goal.overflow_cast-k
 overflow_cast-k c =
     search square_fits_32
 
-pub returns-in_default : goal.returns-in_default
-returns-in_default c =
-    search no_count
+pub returns-in_err-count : goal.returns-in_err-count
+returns-in_err-count c =
+    let p = err_from_is_err_and c.from_residual.result c.from_residual.ensures.1 in
+    rw (p.1, p.2) (no_count _ _ _ _ _ c.in_err-count.ensures)
 
 pub read_pairs-requires-clause-k_le_most_events : goal.read_pairs-requires-clause-k_le_most_events
 read_pairs-requires-clause-k_le_most_events c =
-    (search, search count_in)
+    (c.requires.k_le_most_events, count_in _ _ _ _ _ c.in_ok-count.ensures)
 
 pub returns : goal.returns
 returns c =
-    search whole-order
+    whole-order _ _ _ _ _ c.in_ok-count.ensures _ _ c.read_pairs.ensures

@@ -1,32 +1,32 @@
+use Rattle.std.proofs.lemmas.Result.{err_from_is_err_and}
+use native.Mathlib.Omega.{arith}
 use mathlib.Core.Path.{refl}
-use Rattle.reader.proofs.Tables.{first_there, first-stop, first-read, table-stop, table-next, table-all, table-room}
+use Rattle.reader.proofs.Tables.{first-stop, first-read, table-stop, table-next, table-all, table-room}
 use Rattle.case.proofs.Pad.{step-size}
 use Rattle.reader.proofs.read_orders.Goals as goal
 
-pub slice_bounds-read_order-end : goal.slice_bounds-read_order-end
-slice_bounds-read_order-end c =
-    search first_there
-
-pub returns-in_default : goal.returns-in_default
-returns-in_default c =
-    search first-stop
+pub returns-in_err-place : goal.returns-in_err-place
+returns-in_err-place c =
+    let p = err_from_is_err_and c.from_residual.result c.from_residual.ensures.1 in
+    rw (p.1, p.2) (first-stop _ _ _ _ _ c.requires.rows_value c.requires.le_threads _ _ c.in_err-place.ensures)
 
 pub loop-p-init : goal.loop-p-init
 loop-p-init c =
-    first-read _ _ _ _ _ c.requires.rows_value c.requires.le_threads _ _ c.read_order-first.ensures _ _ c.in-Next.is refl
+    first-read _ _ _ _ _ c.requires.rows_value c.requires.le_threads _ _ _ c.in_ok-place.ensures refl
 
-pub read_order-read-requires-clause-rows_value : goal.read_order-read-requires-clause-rows_value
-read_order-read-requires-clause-rows_value c =
+pub read_order-requires-in-loop-p-clause-rows_value : goal.read_order-requires-in-loop-p-clause-rows_value
+read_order-requires-in-loop-p-clause-rows_value c =
     search (table-room, step-size)
 
-pub returns-in_default-read : goal.returns-in_default-read
-returns-in_default-read c =
-    search table-stop
+pub returns-in_err-place-2 : goal.returns-in_err-place-2
+returns-in_err-place-2 c =
+    let p = err_from_is_err_and c.from_residual-in_err-place-2.result c.from_residual-in_err-place-2.ensures.1 in
+    rw (p.1, p.2) (table-stop _ _ _ _ _ _ _ _ _ c.loop-p.invariant (omega arith) _ _ c.in_err-place-2.ensures)
 
 pub loop-p-preserved : goal.loop-p-preserved
 loop-p-preserved c =
-    search (table-next, step-size)
+    table-next _ _ _ _ _ _ _ _ _ c.loop-p.invariant (omega arith) _ _ c.in_ok-place-2.ensures c.requires.le_threads.1 _ (step-size _)
 
 pub returns : goal.returns
 returns c =
-    search table-all
+    table-all _ _ _ _ _ _ _ _ _ c.loop-p.invariant (omega arith)

@@ -1,30 +1,31 @@
+use Rattle.std.proofs.lemmas.Result.{err_from_is_err_and}
 use Rattle.reader.proofs.Fields.{no_writes, no_orders, no_length, no_name, whole-rest, up_to_most}
 use Rattle.reader.proofs.read_rest.Goals as goal
 
-pub returns-in_default : goal.returns-in_default
-returns-in_default c =
-    search no_writes
+pub returns-in_err-after_writes : goal.returns-in_err-after_writes
+returns-in_err-after_writes c =
+    let p = err_from_is_err_and c.from_residual.result c.from_residual.ensures.1 in
+    rw (p.1, p.2) (no_writes _ _ _ _ _ _ _ _ _ c.in_err-after_writes.ensures)
 
-pub returns-in_default-orders : goal.returns-in_default-orders
-returns-in_default-orders c =
-    search no_orders
+pub returns-in_err-after_orders : goal.returns-in_err-after_orders
+returns-in_err-after_orders c =
+    let p = err_from_is_err_and c.from_residual-in_err-after_orders.result c.from_residual-in_err-after_orders.ensures.1 in
+    rw (p.1, p.2) (no_orders _ _ _ _ _ _ _ _ _ c.in_ok-after_writes.ensures _ _ c.in_err-after_orders.ensures)
 
-pub returns-in_default-count : goal.returns-in_default-count
-returns-in_default-count c =
-    search no_length
+pub returns-in_err-count : goal.returns-in_err-count
+returns-in_err-count c =
+    let p = err_from_is_err_and c.from_residual-in_err-count.result c.from_residual-in_err-count.ensures.1 in
+    rw (p.1, p.2) (no_length _ _ _ _ _ _ _ _ _ c.in_ok-after_writes.ensures _ _ c.in_ok-after_orders.ensures _ _ c.in_err-count.ensures)
 
-pub read_name-named-requires-clause-i_le_most_name : goal.read_name-named-requires-clause-i_le_most_name
-read_name-named-requires-clause-i_le_most_name c =
-    search up_to_most
+pub read_name-requires-clause-i_le_most_name : goal.read_name-requires-clause-i_le_most_name
+read_name-requires-clause-i_le_most_name c =
+    up_to_most _ _ _ _ _ c.in_ok-count.ensures
 
-pub read_name-named-requires-clause-name_value : goal.read_name-named-requires-clause-name_value
-read_name-named-requires-clause-name_value c =
-    search c.requires
-
-pub returns-in_default-named : goal.returns-in_default-named
-returns-in_default-named c =
-    search no_name
+pub returns-in_err-end : goal.returns-in_err-end
+returns-in_err-end c =
+    let p = err_from_is_err_and c.from_residual-in_err-end.result c.from_residual-in_err-end.ensures.1 in
+    rw (p.1, p.2) (no_name _ _ _ _ _ _ _ _ _ c.in_ok-after_writes.ensures _ _ c.in_ok-after_orders.ensures _ _ c.in_ok-count.ensures _ _ c.in_err-end.ensures)
 
 pub returns : goal.returns
 returns c =
-    search whole-rest
+    whole-rest _ _ _ _ _ _ _ _ _ c.in_ok-after_writes.ensures _ _ c.in_ok-after_orders.ensures _ _ c.in_ok-count.ensures _ _ c.in_ok-end.ensures

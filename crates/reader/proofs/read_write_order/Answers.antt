@@ -1,3 +1,5 @@
+use Rattle.std.proofs.lemmas.Result.{err_from_is_err_and}
+use native.Mathlib.Omega.{arith}
 use Rattle.reader.proofs.Stores.{writing_begun, writing_all, writing_some, writing_place, writing_stop, writing_byte, writing_bit, writing_next}
 use Rattle.reader.proofs.read_write_order.Goals as goal
 
@@ -5,30 +7,31 @@ pub loop-j-init : goal.loop-j-init
 loop-j-init c =
     search writing_begun
 
-pub read_store-read-requires : goal.read_store-read-requires
-read_store-read-requires c =
-    (search writing_some, search)
+pub read_store-requires : goal.read_store-requires
+read_store-requires c =
+    (writing_some _ _ _ _ _ _ _ _ _ _ _ _ c.loop-j.invariant (omega arith), c.requires.k_le_most_events)
 
-pub returns-in_default : goal.returns-in_default
-returns-in_default c =
-    search writing_stop
+pub returns-in_err-e : goal.returns-in_err-e
+returns-in_err-e c =
+    let p = err_from_is_err_and c.from_residual.result c.from_residual.ensures.1 in
+    rw (p.1, p.2) (writing_stop _ _ _ _ _ _ _ _ _ _ _ _ c.loop-j.invariant (omega arith) _ _ c.in_err-e.ensures)
 
 pub overflow_cast-writes : goal.overflow_cast-writes
 overflow_cast-writes c =
-    search writing_byte
+    writing_byte _ _ _ _ _ _ _ _ _ _ _ _ c.loop-j.invariant (omega arith) _ _ c.in_ok-e.ensures
 
 pub bounds-writes-j : goal.bounds-writes-j
 bounds-writes-j c =
-    search writing_place
+    writing_place _ _ _ _ _ _ _ _ _ _ _ _ c.loop-j.invariant (omega arith)
 
 pub with-listed-requires : goal.with-listed-requires
 with-listed-requires c =
-    search writing_bit
+    writing_bit _ _ _ _ _ _ _ _ _ _ _ _ c.loop-j.invariant (omega arith) _ _ c.in_ok-e.ensures
 
 pub loop-j-preserved : goal.loop-j-preserved
 loop-j-preserved c =
-    search writing_next
+    writing_next _ _ _ _ _ _ _ _ _ _ _ _ c.loop-j.invariant (omega arith) _ _ c.in_ok-e.ensures _ c.with-listed.ensures
 
 pub returns : goal.returns
 returns c =
-    search writing_all
+    writing_all _ _ _ _ _ _ _ _ _ _ _ _ c.loop-j.invariant (omega arith)

@@ -1,9 +1,5 @@
-use Prim.Native.Nat.{◌-◌}
 use Rattle.reader.proofs.Stores.{Writing}
 use Rattle.reader.proofs.read_write_order.Given as goal
 
 abbrev pub invariant-loop-j : goal.invariant-loop-j
 invariant-loop-j l = Writing l.bytes l.at l.k l.x l.kinds l.targets l.initial.writes l.count l.writes l.place l.listed l.j
-
-abbrev pub decreases-loop-j : goal.decreases-loop-j
-decreases-loop-j l = l.count - l.j

@@ -1,3 +1,5 @@
+use Rattle.std.proofs.lemmas.Result.{err_from_is_err_and}
+use native.Mathlib.Omega.{arith}
 use Rattle.reader.proofs.Tables.{table-begun, table-stop, table-next, table-all, table-room}
 use Rattle.case.proofs.Pad.{step-size}
 use Rattle.reader.proofs.read_writes.Goals as goal
@@ -6,18 +8,19 @@ pub loop-x-init : goal.loop-x-init
 loop-x-init c =
     search table-begun
 
-pub read_write_order-read-requires-clause-writes_value : goal.read_write_order-read-requires-clause-writes_value
-read_write_order-read-requires-clause-writes_value c =
+pub read_write_order-requires-clause-writes_value : goal.read_write_order-requires-clause-writes_value
+read_write_order-requires-clause-writes_value c =
     search (table-room, step-size)
 
-pub returns-in_default : goal.returns-in_default
-returns-in_default c =
-    search table-stop
+pub returns-in_err-place : goal.returns-in_err-place
+returns-in_err-place c =
+    let p = err_from_is_err_and c.from_residual.result c.from_residual.ensures.1 in
+    rw (p.1, p.2) (table-stop _ _ _ _ _ _ _ _ _ c.loop-x.invariant (omega arith) _ _ c.in_err-place.ensures)
 
 pub loop-x-preserved : goal.loop-x-preserved
 loop-x-preserved c =
-    search (table-next, step-size)
+    table-next _ _ _ _ _ _ _ _ _ c.loop-x.invariant (omega arith) _ _ c.in_ok-place.ensures c.requires.addresses_le_most_addresses.0 _ (step-size _)
 
 pub returns : goal.returns
 returns c =
-    search table-all
+    table-all _ _ _ _ _ _ _ _ _ c.loop-x.invariant (omega arith)

@@ -1,9 +1,5 @@
-use Prim.Native.Nat.{◌-◌}
 use Rattle.reader.proofs.Tables.{Writes}
 use Rattle.reader.proofs.read_writes.Given as goal
 
 abbrev pub invariant-loop-x : goal.invariant-loop-x
 invariant-loop-x l = Writes l.bytes l.at l.addresses l.k l.kinds l.targets l.initial.writes l.writes l.place l.x
-
-abbrev pub decreases-loop-x : goal.decreases-loop-x
-decreases-loop-x l = l.addresses - l.x

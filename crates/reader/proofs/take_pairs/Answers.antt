@@ -1,38 +1,28 @@
-use Rattle.reader.proofs.Runs.{rising_begun, rising_room, second_there, second_fits, next_fits, some_left, fewer_left, one_taken, pairs_taken}
+use native.Mathlib.Omega.{arith}
+use mathlib.Core.Path.{refl}
+use Rattle.reader.proofs.Runs.{second_there, second_fits, next_fits, some_left, fewer_left, one_taken}
 use Rattle.reader.proofs.take_pairs.Goals as goal
-
-pub loop-low-init : goal.loop-low-init
-loop-low-init c =
-    search rising_begun
-
-pub follows-requires : goal.follows-requires
-follows-requires c =
-    search rising_room
 
 pub overflow_add-place : goal.overflow_add-place
 overflow_add-place c =
-    search second_fits
+    second_fits _ _ _ _ _ _ _ _ _ _ c.loop-low.invariant _ c.follows.ensures c.loop-low-test.true
 
-pub byte-b-requires : goal.byte-b-requires
-byte-b-requires c =
-    search second_there
+pub bounds-bytes-place : goal.bounds-bytes-place
+bounds-bytes-place c =
+    second_there _ _ _ _ _ _ _ _ _ _ c.loop-low.invariant _ c.follows.ensures c.loop-low-test.true
 
 pub overflow_add-place-in-loop-low : goal.overflow_add-place-in-loop-low
 overflow_add-place-in-loop-low c =
-    search next_fits
+    next_fits _ _ _ _ _ _ _ _ _ _ c.loop-low.invariant _ c.follows.ensures c.loop-low-test.true
 
 pub overflow_sub-left : goal.overflow_sub-left
 overflow_sub-left c =
-    search some_left
+    some_left _ _ _ _ _ _ _ _ _ _ c.loop-low.invariant _ c.follows.ensures c.loop-low-test.true
 
 pub loop-low-smaller : goal.loop-low-smaller
 loop-low-smaller c =
-    search fewer_left
+    fewer_left _ _ _ _ _ _ _ _ _ _ c.loop-low.invariant _ c.follows.ensures c.loop-low-test.true
 
 pub loop-low-preserved : goal.loop-low-preserved
 loop-low-preserved c =
-    search one_taken
-
-pub returns : goal.returns
-returns c =
-    search pairs_taken
+    one_taken _ _ _ _ _ _ _ _ _ _ c.loop-low.invariant _ c.follows.ensures c.loop-low-test.true _ _ (c.from-b.ensures, omega (arith, c.from-b.ensures)) c.with-row.ensures
