@@ -25,10 +25,9 @@ use Rattle.case.specs.Held.{events_of, link_count, link, links_of, case_of}
 use Rattle.case.specs.Sound.{Sound}
 use Rattle.case.specs.Stores.{store_at, writes_at}
 use Rattle.case.proofs.Means.{writes-of}
-use Rattle.writer.specs.Stages.{run, sum, initial_at, event_at, listing_bytes, link_at, links_bytes, entry_at, writes_of, bit_bytes, row_at, pairs_at, pairs, order_at, byte_at, name_bytes, rest_bytes, Room, Wrote, Size}
+use Rattle.writer.specs.Stages.{run, sum, initial_at, event_at, listing_bytes, link_at, links_bytes, entry_at, writes_of, bit_bytes, row_at, pairs_at, pairs, order_at, byte_at, name_bytes, rest_bytes}
 use Rattle.writer.specs.Stored.{stored_of}
 use Rattle.std.specs.Prelude.{Ok, Err}
-use Rattle.writer.proofs.Runs.{size-append, size_three, room-first, room-then, wrote_then, room-one, room_two, room_three, wrote_three}
 
 -- ---- runs and tables
 pub run-same : (n : ℕ) (g h : ℕ → List ℕ) → ((i : ℕ) → i < n → g i ≡ h i) → run g n ≡ run h n
@@ -145,13 +144,13 @@ module _ (rows : List ℕ) (k p : ℕ) where
 
 -- ---- the record
 module _ (c : Held) where
-  abbrev front : List ℕ
+  abbrev pub front : List ℕ
   front = encode c.edition ++ (encode c.threads ++ encode c.addresses)
 
-  abbrev listing : List ℕ
+  abbrev pub listing : List ℕ
   listing = listing_bytes c.initial c.kind c.thread c.address c.value c.addresses c.events
 
-  abbrev rest : List ℕ
+  abbrev pub rest : List ℕ
   rest = rest_bytes c.kind c.address c.writes c.rows c.name c.threads c.addresses c.events c.namelength
 
   initials_are : each encode (case_of c).initials ≡ run (initial_at c.initial) c.addresses
@@ -183,7 +182,7 @@ module _ (c : Held) where
 
   -- i is how many dependencies there are
   module _ (i : ℕ) (e : i ≡ link_count c.edition c.dependencies) where
-    abbrev links : List ℕ
+    abbrev pub links : List ℕ
     links = links_bytes c.edition c.class c.from c.to i
 
     pub links_few : Sound c → i ≤ most_dependencies
@@ -195,39 +194,9 @@ module _ (c : Held) where
         let f : ℕ → Dependency = λ j. link (get_or c.class j 0) (get_or c.from j 0) (get_or c.to j 0) in
         rw (← e, table-length 0 i f) (ap (λ (l : List ℕ). cond (second c.edition) (encode i ++ l) []) (each-run dependency_bytes f i))
 
-    record_by : record_of (case_of c) ≡ front ++ (listing ++ (links ++ rest))
+    pub record_by : record_of (case_of c) ≡ front ++ (listing ++ (links ++ rest))
     unfolding record_of case_of listing_bytes rest_bytes name_bytes
     record_by = rw (initials_are, events_are, links_are, writes_are, orders_are, name-long, name_is) (simp append_assoc)
-
-    pub record_size : (a b d g x y q z : ℕ) → Size front a x → Size listing b y → Size links d q → Size rest g z → x + (y + (q + z)) ≡ length (record_of (case_of c))
-    record_size a b d g x y q z f l h r =
-        (size-append front (listing ++ (links ++ rest)) a (b + (d + g)) x (y + (q + z)) f (size_three listing links rest b d g y q z l h r)).size ∙ ap length (sym record_by)
-
-    module _ (s : List ℕ) (at : ℕ) (r : Room s at (record_of (case_of c))) where
-      whole : Room s at (front ++ (listing ++ (links ++ rest)))
-      whole = rw record_by at r
-
-      pub front-room : Room s at front
-      front-room = room-first s at front (listing ++ (links ++ rest)) whole
-
-      module _ (t : List ℕ) (p : ℕ) (f : Wrote s at front t p) where
-        others : Room t p (listing ++ (links ++ rest))
-        others = room-then s at front (listing ++ (links ++ rest)) whole t p f
-
-        pub listing-room : Room t p listing
-        listing-room = room-one t p listing links rest others
-
-        module _ (u : List ℕ) (q : ℕ) (g : Wrote t p listing u q) where
-          pub links_room : Room u q links
-          links_room = room_two t p listing links rest others u q g
-
-          module _ (v : List ℕ) (o : ℕ) (l : Wrote u q links v o) where
-            pub rest-room : Room v o rest
-            rest-room = room_three t p listing links rest others u q g v o l
-
-            pub record_wrote : (v' : List ℕ) (o' : ℕ) → Wrote v o rest v' o' → Wrote s at (record_of (case_of c)) v' o'
-            record_wrote v' o' h =
-                rw record_by (wrote_then s at front (listing ++ (links ++ rest)) whole t p f v' o' (wrote_three t p listing links rest others u q g v o l v' o' h))
 
 -- ---- a record put in a lent buffer
 module _ (w s : List ℕ) (at n : ℕ) (e : n ≡ length w) where

@@ -1,2 +1,4 @@
 pub mod Stages
+pub mod Sinks
+pub mod SinksKeep
 pub mod Stored

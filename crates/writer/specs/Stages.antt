@@ -1,10 +1,10 @@
--- The bytes of a record by stages, over the arrays of a struct, and how a stage leaves a buffer.
+-- The bytes of a record by stages, over the arrays of a struct, and how many they are at most.
 -- Assumes nothing.
-use Rattle.std.specs.Prelude.{ℕ, zero, suc, ◌+◌, ◌*◌, ◌≤◌, ◌≡◌, cond, List, [], ◌∷◌, ◌++◌, length, get_or}
+use Rattle.std.specs.Prelude.{ℕ, zero, suc, ◌+◌, ◌*◌, cond, List, [], ◌∷◌, ◌++◌, get_or}
 use Rattle.finite.specs.Tests.{count}
-use Rattle.number.specs.Number.{encode, splice, widest}
+use Rattle.number.specs.Number.{encode, widest}
 use Rattle.bits.specs.Bit.{bit}
-use Rattle.model.specs.Limits.{second, most_events, most_dependencies}
+use Rattle.model.specs.Limits.{second, most_threads, most_addresses, most_events, most_dependencies, most_name}
 use Rattle.model.specs.Written.{event_bytes, dependency_bytes}
 use Rattle.case.specs.Held.{event_of, link}
 use Rattle.case.specs.Stores.{store_at}
@@ -70,15 +70,6 @@ name_bytes name i = encode i ++ run (byte_at name) i
 unfoldable pub rest_bytes : (kinds addresses writes rows name : List ℕ) → (n m k i : ℕ) → List ℕ
 rest_bytes ks as' ws rows name n m k i = run (writes_of ks as' ws k) m ++ (run (order_at rows k) n ++ name_bytes name i)
 
--- the bytes w fit from a place on
-abbrev pub Room : List ℕ → ℕ → List ℕ → Type 0
-Room buffer at w = at + length w ≤ length buffer
-
--- the bytes w were written from a place on, and the next place is behind them
-pub record Wrote (before : List ℕ) (at : ℕ) (w after : List ℕ) (next : ℕ) : Type 0 where
-  pub next_is : next ≡ at + length w
-  pub buffer : after ≡ splice before at w
-
 -- the most bytes of a number, and of what is made of numbers
 abbrev pub most_number : ℕ
 most_number = widest
@@ -95,13 +86,22 @@ most_event = most_two + most_two
 abbrev pub most_links : ℕ
 most_links = most_number + most_dependencies * most_three
 
+-- of the initial values, the number of events and the events
+abbrev pub most_listing : ℕ
+most_listing = most_addresses * most_number + (most_number + most_events * most_event)
+
+-- of a write order
+abbrev pub most_entries : ℕ
+most_entries = most_events * most_number
+
 abbrev pub most_row : ℕ
 most_row = most_events * most_two
 
 abbrev pub most_order : ℕ
 most_order = most_number + most_events * most_row
 
--- r is how many bytes w are, at most so many
-pub record Size (w : List ℕ) (most r : ℕ) : Type 0 where
-  pub size : r ≡ length w
-  pub few : r ≤ most
+abbrev pub most_rest : ℕ
+most_rest = most_addresses * most_entries + (most_threads * most_order + (most_number + most_name))
+
+abbrev pub most_record : ℕ
+most_record = most_three + (most_listing + (most_links + most_rest))

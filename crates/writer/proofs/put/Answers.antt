@@ -1,5 +1,5 @@
 -- `writer::put` meets its contract. Assumes nothing.
-use Rattle.number.proofs.Splice.{splice-part}
+use borrow.Author.Rules.{rules}
 use Rattle.writer.proofs.Parts.{put_done, put_past, put-short}
 use Rattle.writer.proofs.put.Goals as goal
 use Rattle.writer.proofs.put.Goals.{then-out-at-via-then-out-at, then-out-at-via-else-out-at+then-out-at-2}
@@ -10,4 +10,4 @@ returns-then-out-at c =
 
 pub returns : goal.returns
 returns c =
-    put_done _ _ _ _ c.size-length.ensures (search) (search) _ (splice-part _ _ _ _ c.write_record.ensures.buffer)
+    put_done _ _ _ _ c.size-length.ensures c.if-out-at.false c.if-out-at-2.false _ (search rules)

@@ -1,7 +1,0 @@
--- `writer::size_counted_links` meets its contract. Assumes nothing.
-use Rattle.writer.proofs.Runs.{size-append}
-use Rattle.writer.proofs.size_counted_links.Goals as goal
-
-pub returns : goal.returns
-returns c =
-    search size-append
