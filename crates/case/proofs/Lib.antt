@@ -3,7 +3,6 @@ pub mod Numbers
 pub mod Faults
 pub mod Chains
 pub mod Bounds
-pub mod Tested
 pub mod WriteOrders
 pub mod Links
 pub mod Means

@@ -75,7 +75,7 @@ impl Case {
 
     pub const MOST_BYTES: usize = 33697;
 
-    // the kinds of events
+    // The kinds of events. Numbers and not an enum: the arrays of C hold any byte, also one that is no kind.
     pub const LOAD: u8 = 0;
 
     pub const STORE: u8 = 1;
@@ -84,7 +84,7 @@ impl Case {
 
     pub const LWSYNC: u8 = 3;
 
-    // the classes of dependencies
+    // The classes of dependencies: numbers for the same reason.
     pub const BY_ADDRESS: usize = 0;
 
     pub const BY_DATA: usize = 1;
