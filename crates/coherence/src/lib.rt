@@ -26,10 +26,8 @@ pub fn to_address(address: &[u8; Storage::MOST_WRITES], k: usize, a: u8) -> u64
     ensures { Set result (λ w. ltb w k && eqb (get_or address.now w 0) a) }
 {
     let mut set: u64 = 0;
-    let mut w: usize = 0;
-    while w < k {
+    for w in 0..k {
         set |= to_one(address, a, w);
-        w += 1;
     }
     set
 }
@@ -48,10 +46,8 @@ pub fn up_to(before: &[u64; Storage::MOST_WRITES], set: u64, k: usize) -> u64
     ensures { Set result (λ v. some k (λ w. bit set w && (eqb v w || edge_in before.now v w))) }
 {
     let mut out: u64 = 0;
-    let mut w: usize = 0;
-    while w < k {
+    for w in 0..k {
         out |= up_to_one(before, set, w);
-        w += 1;
     }
     out
 }
@@ -67,17 +63,14 @@ fn committed_row(row: u64, added: u64, y: usize, b: usize) -> u64
 
 // Commits write x to be before write y, of k, with the edges implied by transitivity: the order must be transitive.
 pub fn commit(before: &mut [u64; Storage::MOST_WRITES], k: usize, x: usize, y: usize)
-    requires before_len { length before.old ≡ most_writes }
     requires k_le_most_writes { k ≤ most_writes }
     requires x_lt_most_writes { x < most_writes }
     requires y_lt_most_writes { y < most_writes }
     ensures { Committed x y before.old before.new k }
 {
     let added = bits::with(before[x], x);
-    let mut b: usize = 0;
-    while b < k {
+    for b in 0..k {
         before[b] = committed_row(before[b], added, y, b);
-        b += 1;
     }
 }
 
@@ -91,22 +84,18 @@ fn joined(row: u64, pivot: u64, j: usize) -> u64
 
 // Adds to the rows of k writes all that leads there by way of j.
 fn by_way_of(before: &mut [u64; Storage::MOST_WRITES], k: usize, j: usize)
-    requires before_len { length before.old ≡ most_writes }
     requires k_le_most_writes { k ≤ most_writes }
     requires j_lt_k { j < k }
     ensures { ByWayOf j before.old before.new k }
 {
     let pivot = before[j];
-    let mut b: usize = 0;
-    while b < k {
+    for b in 0..k {
         before[b] = joined(before[b], pivot, j);
-        b += 1;
     }
 }
 
 // Adds to the rows of k writes the edges implied by transitivity.
 fn close(before: &mut [u64; Storage::MOST_WRITES], k: usize)
-    requires before_len { length before.old ≡ most_writes }
     requires k_le_most_writes { k ≤ most_writes }
     ensures same { relation_in k before.new ≡ closure k (edge_in before.old) }
     ensures size { length before.new ≡ most_writes }

@@ -1,16 +1,11 @@
 -- `coherence::close` meets its contract. Assumes nothing.
 use borrow.Author.Rules.{rules}
-use native.Mathlib.Omega.{arith}
 use Rattle.coherence.proofs.Loops.{reached-begun, reached-more, reached-size, reached-all}
 use Rattle.coherence.proofs.close.Goals as goal
 
 pub loop-j-init : goal.loop-j-init
 loop-j-init c =
     reached-begun
-
-pub by_way_of-requires-clause-before_len : goal.by_way_of-requires-clause-before_len
-by_way_of-requires-clause-before_len c =
-    search (reached-size, rules)
 
 pub by_way_of-requires-clause-k_le_most_writes : goal.by_way_of-requires-clause-k_le_most_writes
 by_way_of-requires-clause-k_le_most_writes c =
@@ -19,14 +14,6 @@ by_way_of-requires-clause-k_le_most_writes c =
 pub by_way_of-requires-clause-j_lt_k : goal.by_way_of-requires-clause-j_lt_k
 by_way_of-requires-clause-j_lt_k c =
     search (reached-size, rules)
-
-pub overflow_step-j : goal.overflow_step-j
-overflow_step-j c =
-    omega arith
-
-pub loop-j-smaller : goal.loop-j-smaller
-loop-j-smaller c =
-    omega arith
 
 pub loop-j-preserved : goal.loop-j-preserved
 loop-j-preserved c =

@@ -1,10 +1,6 @@
 -- `coherence::commit` meets its contract. Assumes nothing.
-use Prim.Native.Nat.{◌-◌}
 use Rattle.coherence.proofs.Loops.{Commits}
 use Rattle.coherence.proofs.commit.Given as goal
 
 abbrev pub invariant-loop-b : goal.invariant-loop-b
 invariant-loop-b l = Commits l.k l.y l.added l.initial.before l.before l.b
-
-abbrev pub decreases-loop-b : goal.decreases-loop-b
-decreases-loop-b l = l.k - l.b

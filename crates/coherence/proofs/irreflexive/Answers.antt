@@ -1,5 +1,4 @@
 -- `coherence::irreflexive` meets its contract. Assumes nothing.
-use native.Mathlib.Omega.{arith}
 use Rattle.finite.proofs.Loops.{begun, ends}
 use Rattle.coherence.proofs.Loops.{cycle, no_cycle}
 use Rattle.coherence.proofs.irreflexive.Goals as goal
@@ -11,14 +10,6 @@ loop-a-init c =
 pub returns-then-has : goal.returns-then-has
 returns-then-has c =
     cycle c.args.k c.loop-a.a c.args.before.now c.loop-a-test.true c.has.ensures c.if-has.true
-
-pub overflow_step-a : goal.overflow_step-a
-overflow_step-a c =
-    omega arith
-
-pub loop-a-smaller : goal.loop-a-smaller
-loop-a-smaller c =
-    omega arith
 
 pub loop-a-preserved : goal.loop-a-preserved
 loop-a-preserved c =

@@ -1,5 +1,4 @@
 -- `coherence::irreflexive` meets its contract. Assumes nothing.
-use Prim.Native.Nat.{◌-◌}
 use mathlib.Core.Bool.{not}
 use Rattle.finite.proofs.Loops.{Passed}
 use Rattle.storage.specs.Held.{edge_in}
@@ -7,6 +6,3 @@ use Rattle.coherence.proofs.irreflexive.Given as goal
 
 abbrev pub invariant-loop-a : goal.invariant-loop-a
 invariant-loop-a l = Passed l.k (λ a. not (edge_in l.before a a)) l.a
-
-abbrev pub decreases-loop-a : goal.decreases-loop-a
-decreases-loop-a l = l.k - l.a

@@ -1,5 +1,4 @@
 -- `coherence::to_address` meets its contract. Assumes nothing.
-use native.Mathlib.Omega.{arith}
 use lib.Dec.{eqb}
 use lib.ListN.{get_or}
 use Rattle.rows.proofs.Loops.{empty, joins}
@@ -9,14 +8,6 @@ use Rattle.coherence.proofs.to_address.Goals as goal
 pub loop-w-init : goal.loop-w-init
 loop-w-init c =
     search empty
-
-pub overflow_add-w : goal.overflow_add-w
-overflow_add-w c =
-    omega arith
-
-pub loop-w-smaller : goal.loop-w-smaller
-loop-w-smaller c =
-    omega arith
 
 pub loop-w-preserved : goal.loop-w-preserved
 loop-w-preserved c =

@@ -1,5 +1,4 @@
 -- `coherence::to_address` meets its contract. Assumes nothing.
-use Prim.Native.Nat.{◌-◌}
 use mathlib.Core.Bool.{◌&&◌}
 use lib.Dec.{eqb}
 use lib.ListN.{get_or}
@@ -8,6 +7,3 @@ use Rattle.coherence.proofs.to_address.Given as goal
 
 abbrev pub invariant-loop-w : goal.invariant-loop-w
 invariant-loop-w l = United l.k (λ w e. eqb e w && eqb (get_or l.address w 0) l.a) l.w l.set
-
-abbrev pub decreases-loop-w : goal.decreases-loop-w
-decreases-loop-w l = l.k - l.w

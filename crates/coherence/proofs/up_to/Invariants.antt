@@ -1,5 +1,4 @@
 -- `coherence::up_to` meets its contract. Assumes nothing.
-use Prim.Native.Nat.{◌-◌}
 use mathlib.Core.Bool.{◌&&◌, ◌||◌}
 use lib.Dec.{eqb}
 use Rattle.bits.specs.Bit.{bit}
@@ -9,6 +8,3 @@ use Rattle.coherence.proofs.up_to.Given as goal
 
 abbrev pub invariant-loop-w : goal.invariant-loop-w
 invariant-loop-w l = United l.k (λ w v. bit l.set w && (eqb v w || edge_in l.before v w)) l.w l.out
-
-abbrev pub decreases-loop-w : goal.decreases-loop-w
-decreases-loop-w l = l.k - l.w
