@@ -9,7 +9,7 @@ use mathlib.Core.Path.{◌≡◌, refl, sym, ap, ◌∙◌, subst}
 use mathlib.Core.Bool.{true, false, cond, ◌&&◌}
 use mathlib.Core.List.{List, [], ◌∷◌, ◌++◌}
 use lib.Dec.{leb}
-use lib.ListN.{get_or}
+use lib.ListN.{length, get_or}
 use Rattle.finite.specs.Tests.{some}
 use Rattle.finite.specs.Lists.{table}
 use Rattle.finite.proofs.Tests.{and_i, or_l, or_r, is_false, some_make, some-none}
@@ -19,7 +19,7 @@ use Rattle.storage_model.specs.Subsystem.{Event, barrier, same, member, precedes
 use Rattle.storage_laws.proofs.Lists.{same_refl, precedes-append}
 use Rattle.storage.specs.Held.{event_of, list_at}
 use Rattle.storage.proofs.Events.{write_of, barrier_at}
-use Rattle.propagated.specs.Lists.{Once, later_of}
+use Rattle.propagated.specs.Lists.{ListOf, Once, later_of}
 
 -- ---- events by their entries
 
@@ -59,6 +59,17 @@ later_barrier as' vs a v {e} l = sym (ap (later_of as' vs a v) (barrier_at e l))
 -- the entry at place i
 abbrev pub entry_at : (events : List ℕ) (t i : ℕ) → ℕ
 entry_at es t i = get_or es (t * most_listed + i) 0
+
+-- a place of the list is one of those counted, what is read there is the entry, and behind the list all are counted
+module _ {counts es part : List ℕ} {t i : ℕ} (L : ListOf counts es t part) where
+  pub inside : i < length part → i < get_or counts t 0
+  inside l = rw (L.size) at l
+
+  pub read_at : {e : ℕ} → i < length part → e ≡ get_or part i 0 → e ≡ entry_at es t i
+  read_at l h = h ∙ L.place i l
+
+  pub behind : length part ≤ i → get_or counts t 0 ≤ i
+  behind l = rw (L.size) at l
 
 -- the events of the first i entries
 unfoldable pub firsts : (events : List ℕ) (t i : ℕ) → List Event

@@ -1,6 +1,6 @@
 -- What threads' lists in arrays say.
 -- Assumes nothing.
-use Rattle.std.specs.Prelude.{ℕ, ◌≤◌, ◌<◌, ◌≡◌, Bool, true, cond, ◌&&◌, List, [], ◌∷◌, eqb, get_or}
+use Rattle.std.specs.Prelude.{ℕ, ◌+◌, ◌*◌, ◌≤◌, ◌<◌, ◌≡◌, Bool, true, cond, ◌&&◌, List, [], ◌∷◌, eqb, get_or, length}
 use Rattle.finite.specs.Tests.{some}
 use Rattle.storage_model.specs.Limits.{most_barriers, most_listed}
 use Rattle.storage_model.specs.Subsystem.{Event, write, barrier, precedes}
@@ -9,6 +9,11 @@ use Rattle.storage_model.specs.Subsystem.{Event, write, barrier, precedes}
 pub record Lists (listed events : List ℕ) : Type 0 where
   pub short : (t : ℕ) → get_or listed t 0 ≤ most_listed
   pub entries : (i : ℕ) → get_or events i 0 < most_listed
+
+-- part is thread t's list
+pub record ListOf (listed events : List ℕ) (t : ℕ) (part : List ℕ) : Type 0 where
+  pub size : length part ≡ get_or listed t 0
+  pub place : (i : ℕ) → i < length part → get_or part i 0 ≡ get_or events (t * most_listed + i) 0
 
 -- no event stands in the list twice
 pub record Once (l : List Event) : Type 0 where
