@@ -12,6 +12,7 @@ use lib.Bits.{bit_or}
 use lib.ListN.{get_or, length, set, length-set}
 use lib.Seq.{get_or-set_same, get_or-set_other}
 use borrow.Author.Tests.{lt-ltb, eq-eqb, ne_eqb}
+use Rattle.std.specs.Prelude.{Ok}
 use Rattle.finite.proofs.Tests.{and_l, and-false, some-within}
 use Rattle.bits.specs.Bit.{bit}
 use Rattle.bits.proofs.Bits.{bit-or}
@@ -32,6 +33,7 @@ use Rattle.storage.proofs.Means.{writes-of, writes-few, writer_of, writer-within
 use Rattle.propagated.specs.Lists.{separated_in}
 use Rattle.coherence.specs.Rows.{Committed}
 use Rattle.transitions.proofs.Ranges.{write_low}
+use Rattle.transitions.proofs.Taken.{taken}
 use Rattle.transitions.specs.Steps.{Separated, Took}
 
 -- ---- whether two writes are unrelated
@@ -42,9 +44,9 @@ apart before x y = not (edge_in before x y) && not (edge_in before y x)
 
 module _ (before : List ℕ) (x y : ℕ) where
   -- x is before y
-  pub is_before : {t : Bool} → t ≡ bit (get_or before y 0) x → t ≡ true → false ≡ apart before x y
+  pub is_before : {t : Bool} → t ≡ bit (get_or before y 0) x → t ≡ true → not t ≡ apart before x y
   unfolding edge_in
-  is_before e h = sym (ap (λ z. not z && not (bit (get_or before x 0) y)) (sym e ∙ h))
+  is_before e h = ap not h ∙ sym (ap (λ z. not z && not (bit (get_or before x 0) y)) (sym e ∙ h))
 
   -- x is not before y; whether y is before x, u says
   pub not-before : {t u : Bool} → t ≡ bit (get_or before y 0) x → t ≡ false → u ≡ bit (get_or before x 0) y → not u ≡ apart before x y
@@ -194,11 +196,11 @@ module _ (c : Held) (G : Good c) (x y : ℕ) (lx : x < c.writes) (ly : y < c.wri
 
     -- a cycle
     pub makes_cycle : {k : Bool} → u ≡ true → k ≡ acyclic_with (state_of c) (committed (state_of c) x y) → k ≡ false → 3 ≡ failing (state_of c) (commit x y)
-    makes_cycle h g i = fails_by (state_of c) x y to_one (apart_of ∙ sym f ∙ h) (sym g ∙ i)
+    makes_cycle {k} h g i = fails_by (state_of c) x y to_one (apart_of ∙ sym f ∙ h) (sym g ∙ i)
 
     -- none
     pub none-fails : {k : Bool} → u ≡ true → k ≡ acyclic_with (state_of c) (committed (state_of c) x y) → k ≡ true → 0 ≡ failing (state_of c) (commit x y)
-    none-fails h g i = fails_by (state_of c) x y to_one (apart_of ∙ sym f ∙ h) (sym g ∙ i)
+    none-fails {k} h g i = fails_by (state_of c) x y to_one (apart_of ∙ sym f ∙ h) (sym g ∙ i)
 
 -- ---- the state behind the step
 
@@ -226,6 +228,6 @@ unfolding held effect
 rows-effect c G x y = ap₂ with_rows G.same (ap (λ (k : ℕ). rows_held k (committed (state_of c) x y)) (sym (writes-of c)))
 
 -- the rows with the new edges are all that the step changes
-pub took_commit : (c : Held) → Good c → (x y : ℕ) {condition : ℕ} {rows : List ℕ} → rows ≡ rows_held c.writes (committed (state_of c) x y)
-    → condition ≡ failing (state_of c) (commit x y) → Took c (commit x y) (record { condition = condition; next = with_rows c rows })
-took_commit c G x y e h = record { condition = h; next = λ _. ap (with_rows c) e ∙ rows-effect c G x y }
+pub took_commit : (c : Held) → Good c → (x y : ℕ) {rows : List ℕ} → rows ≡ rows_held c.writes (committed (state_of c) x y)
+    → 0 ≡ failing (state_of c) (commit x y) → Took c (commit x y) (Ok (with_rows c rows))
+took_commit c G x y e h = taken c (commit x y) h (ap (with_rows c) e ∙ rows-effect c G x y)

@@ -26,7 +26,9 @@ use Rattle.storage.proofs.Means.{writes-of, initial_of, writer_of, address-of, v
 use Rattle.transitions.proofs.Ranges.{write_low}
 use Rattle.propagated.specs.Lists.{Lists, Once, latest_in, later_of}
 use Rattle.transitions.specs.Steps.{Here, Took}
-use Rattle.transitions.specs.declared.Stepped.{Stepped}
+use Rattle.std.specs.Prelude.{Ok, Err}
+use Rattle.transitions.specs.declared.Condition.TheVariants.{First}
+use Rattle.transitions.proofs.Taken.{taken, not_taken}
 
 module _ (c : Held) (G : Good c) where
   -- the lists of a good struct
@@ -199,7 +201,7 @@ module _ {c : Held} {w t h : ℕ} (G : Good c) (l : w < c.writes) (H : Here c t 
     unfolding failing write_is_new
     not_after e = rw (sym (here_write c G w H l), sym p, q, sym a, e)
 
-    module _ {z : Bool} (b : z ≡ barriers_went_before (state_of c) w t) (f : y ≡ true) where
+    module _ {z : Bool} (f : y ≡ true) (b : z ≡ barriers_went_before (state_of c) w t) where
       pub write_goes : z ≡ true → 0 ≡ failing (state_of c) (propagate_write w t)
       unfolding failing write_is_new
       write_goes e = rw (sym (here_write c G w H l), sym p, q, sym a, f, sym b, e)
@@ -227,16 +229,10 @@ module _ {c : Held} {t h e : ℕ} (G : Good c) (b : ℕ) (i : e ≡ b + most_wri
 
 module _ {c : Held} {t a v r : ℕ} (G : Good c) (l : t < c.threads) (m : a < c.addresses)
     (e : r ≡ latest_in c.address c.value a (get_or c.initial a 0) (list_at c.listed c.events t)) where
-  pub answers_latest : (z : Stepped) → v ≡ r → z.condition ≡ 0 → z.next ≡ c → Took c (respond t a v) z
+  pub answers_latest : v ≡ r → Took c (respond t a v) (Ok c)
   unfolding failing effect
-  answers_latest z q k n = record {
-    condition = k ∙ rw (sym (responds c G t a v l m e), eq-eqb v r q);
-    next = λ _. n ∙ G.same;
-  }
+  answers_latest q = taken c (respond t a v) (rw (sym (responds c G t a v l m e), eq-eqb v r q)) G.same
 
-  pub answers_other : (z : Stepped) → (v ≡ r → ⊥) → z.condition ≡ 1 → Took c (respond t a v) z
+  pub answers_other : (v ≡ r → ⊥) → Took c (respond t a v) (Err First)
   unfolding failing effect
-  answers_other z q k = record {
-    condition = k ∙ rw (sym (responds c G t a v l m e), ne_eqb v r q);
-    next = λ h. absurd (omega (arith, h, k));
-  }
+  answers_other q = not_taken c (respond t a v) First (rw (sym (responds c G t a v l m e), ne_eqb v r q))

@@ -1,0 +1,18 @@
+-- `transitions::State::barriers_went_before` meets its contract. Assumes nothing.
+use borrow.Author.Rules.{rules}
+use Rattle.transitions.proofs.Conditions.{all_went}
+use Rattle.transitions.proofs.Ranges.{write_low, writer_low}
+use Rattle.transitions.proofs.State.barriers_went_before.Goals as goal
+
+pub bounds-c-w : goal.bounds-c-w
+bounds-c-w c =
+    search (rules, write_low)
+
+pub preceding-before-requires : goal.preceding-before-requires
+preceding-before-requires c =
+    search writer_low
+
+pub returns : goal.returns
+returns c =
+    let P = rw (c.lists-lists.ensures.listed, c.lists-lists.ensures.events) at c.preceding-before.ensures in
+    all_went c.args.self.now.good c.requires.w_lt_writes c.requires.here c.from-own.ensures P c.below.ensures c.minus.ensures c.inside.ensures
