@@ -1,12 +1,13 @@
 -- The tally of a log: 02 (iii): "records, accepted, one count per rule".
 -- Assumes nothing.
-use Rattle.std.specs.Prelude.{ℕ, zero, suc, ◌+◌, ◌-◌, Bool, cond, ◌&&◌, ◌||◌, List, [], ◌∷◌, eqb, ltb, length, get_or, set, replicate}
+use Rattle.std.specs.Prelude.{ℕ, zero, suc, ◌+◌, ◌-◌, Bool, cond, ◌&&◌, ◌||◌, List, [], ◌∷◌, eqb, ltb, length, get_or, set, replicate, Result, Ok, Err}
 use Rattle.finite.specs.Tests.{tick}
 use Rattle.finite.specs.Lists.{table}
 use Rattle.model.specs.Limits.{between}
 use Rattle.model.specs.Rules.{first_rule, last_rule}
 use Rattle.tally.specs.declared.Tally.{Tally}
-use Rattle.tally.specs.declared.Addition.{Addition}
+use Rattle.tally.specs.declared.NotAdded.{NotAdded}
+use Rattle.tally.specs.declared.NotAdded.TheVariants.{NoVerdict, Full}
 
 -- 02 (iii): "A count at 4,294,967,295 that would grow is 6"
 abbrev pub most_count : ℕ
@@ -54,6 +55,25 @@ grown t (suc v) = record {
 -- neither of the counts that would grow is at its most
 unfoldable pub may_grow : Tally → ℕ → Bool
 may_grow t v = ltb t.records most_count && ltb (count_of t v) most_count
+
+-- a tally, and 0 if a record was added to it, else why not
+pub record Addition : Type 0 where
+  pub number : ℕ
+  pub tally : Tally
+
+abbrev pub number_of : NotAdded → ℕ
+number_of NoVerdict = 3
+number_of Full = 6
+
+-- what the code answers: the tally with the record, or why the tally stays
+abbrev pub addition_to : Tally → Result Tally NotAdded → Addition
+addition_to t (Ok u) = record { number = 0; tally = u }
+addition_to t (Err why) = record { number = number_of why; tally = t }
+
+-- and where the tally was changed in its place
+abbrev pub addition_left : Result (Unit {0}) NotAdded → Tally → Addition
+addition_left (Ok u) t = record { number = 0; tally = t }
+addition_left (Err why) t = record { number = number_of why; tally = t }
 
 -- one record more: 0 and the tally grown; 02 (iii): 6 and "the tally stays". A number that is no verdict is outside its range: 3, and the
 -- tally stays

@@ -1,9 +1,9 @@
 // The tally of a log: how many records were judged, how many of them accepted, and by rule for how many it is the lowest that they break.
 #![tactic(auto)]
 
-ghost use Rattle.std.specs.Prelude.{◌≡◌, ◌+◌, ◌<◌};
+ghost use Rattle.std.specs.Prelude.{◌≡◌, ◌+◌, ◌≤◌, ◌<◌, MatchResult};
 ghost use Rattle.model.specs.Rules.{first_rule};
-ghost use Rattle.tally.specs.Tally.{rules, zeros, adding};
+ghost use Rattle.tally.specs.Tally.{most_count, rules, zeros, number_of, addition_to, addition_left, adding};
 
 // Its fields and their order are those of litmus_tally in include/litmus.h.
 #[repr(C)]
@@ -22,6 +22,8 @@ impl Tally {
     // rules 11 to 18
     pub const FIRST_RULE: u32 = 11;
 
+    pub const LAST_RULE: u32 = 18;
+
     pub const RULES: usize = 8;
 
     // No record.
@@ -36,90 +38,73 @@ impl Tally {
     }
 }
 
-// A tally, and 0 if a record was added to it, else why not.
-#[derive(Clone, Copy)]
-pub struct Addition {
-    pub number: u8,
-    pub tally: Tally,
+// Why a record is not added. The numbers are those that answers give.
+#[derive(Clone, Copy, Debug, PartialEq, Eq)]
+pub enum NotAdded {
+    // the number is no verdict
+    NoVerdict = 3,
+    // a count that would grow is at its most
+    Full = 6,
 }
 
-// Why a record is not added: its number is no verdict, or a count is full.
-const NO_VERDICT: u8 = 3;
+impl From<NotAdded> for u32 {
+    ghost from_gives = { λ why n. n ≡ number_of why };
 
-const FULL: u8 = 6;
+    fn from(why: NotAdded) -> u32 {
+        why as u32
+    }
+}
+
+// One more in a count, where it is not at its most.
+fn one_more(count: u32) -> Result<u32, NotAdded>
+    ensures { MatchResult result (λ n. (count < most_count) × (n ≡ count + 1)) (λ why. (most_count ≤ count) × (why ≡ NotAdded.Full)) }
+{
+    if count < Tally::MOST_COUNT {
+        Ok(count + 1)
+    } else {
+        Err(NotAdded::Full)
+    }
+}
 
 // One record more that was accepted.
-fn added_accepted(tally: Tally) -> Addition
-    ensures { result ≡ adding tally 0 }
+fn added_accepted(tally: Tally) -> Result<Tally, NotAdded>
+    ensures { addition_to tally result ≡ adding tally 0 }
 {
-    if tally.records < Tally::MOST_COUNT {
-        if tally.accepted < Tally::MOST_COUNT {
-            let mut next = tally;
-            next.records = tally.records + 1;
-            next.accepted = tally.accepted + 1;
-            return Addition {
-                number: 0,
-                tally: next,
-            };
-        }
-    }
-    Addition {
-        number: FULL,
-        tally,
-    }
+    Ok(Tally {
+        records: one_more(tally.records)?,
+        accepted: one_more(tally.accepted)?,
+        broken: tally.broken,
+    })
 }
 
-// One record more that broke a rule, counted from the first.
-fn added_broken(tally: Tally, rule: usize) -> Addition
+// One more record that broke a rule, counted from the first.
+fn added_broken(tally: Tally, rule: usize) -> Result<Tally, NotAdded>
     requires { rule < rules }
-    ensures { result ≡ adding tally (first_rule + rule) }
+    ensures { addition_to tally result ≡ adding tally (first_rule + rule) }
 {
-    let count = tally.broken[rule];
-    if tally.records < Tally::MOST_COUNT {
-        if count < Tally::MOST_COUNT {
-            let mut next = tally;
-            next.records = tally.records + 1;
-            next.broken[rule] = count + 1;
-            return Addition {
-                number: 0,
-                tally: next,
-            };
+    let mut next = tally;
+    next.records = one_more(tally.records)?;
+    next.broken[rule] = one_more(tally.broken[rule])?;
+    Ok(next)
+}
+
+// The tally with one more record of that verdict, or why there is none.
+pub fn added(tally: Tally, verdict: u32) -> Result<Tally, NotAdded>
+    ensures { addition_to tally result ≡ adding tally verdict }
+{
+    match verdict {
+        0 => added_accepted(tally),
+        Tally::FIRST_RULE..=Tally::LAST_RULE => {
+            added_broken(tally, (verdict - Tally::FIRST_RULE) as usize)
         }
-    }
-    Addition {
-        number: FULL,
-        tally,
+        _ => Err(NotAdded::NoVerdict),
     }
 }
 
-// The tally with one more record of that verdict: 0; 6 where a count is full; 3 where the number is no verdict. Else the tally as it was.
-pub fn added(tally: Tally, verdict: u32) -> Addition
-    ensures { result ≡ adding tally verdict }
+// Adds one more record of that verdict to the tally where it is kept, or says why not and leaves it as it was.
+pub fn add(tally: &mut Tally, verdict: u32) -> Result<(), NotAdded>
+    ensures { addition_left result tally.new ≡ adding tally.old verdict }
 {
-    if verdict == 0 {
-        return added_accepted(tally);
-    }
-    if verdict < Tally::FIRST_RULE {
-        return Addition {
-            number: NO_VERDICT,
-            tally,
-        };
-    }
-    let rule = (verdict - Tally::FIRST_RULE) as usize;
-    if rule < Tally::RULES {
-        return added_broken(tally, rule);
-    }
-    Addition {
-        number: NO_VERDICT,
-        tally,
-    }
-}
-
-// Adds one more record of that verdict to the tally where it is kept, and says how `added` answers.
-pub fn add(tally: &mut Tally, verdict: u32) -> u8
-    ensures { (result ≡ (adding tally.old verdict).number) × (tally.new ≡ (adding tally.old verdict).tally) }
-{
-    let a = added(*tally, verdict);
-    *tally = a.tally;
-    a.number
+    *tally = added(*tally, verdict)?;
+    Ok(())
 }

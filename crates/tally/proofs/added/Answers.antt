@@ -1,20 +1,15 @@
 -- `tally::added` meets its contract.
 -- Assumes nothing.
-use Rattle.tally.proofs.Adding.{of_zero, too_low, too_high, of_rule}
+use native.Mathlib.Omega.{arith}
+use Rattle.tally.proofs.Adding.{too_low, too_high}
 use Rattle.tally.proofs.added.Goals as goal
 
-pub returns-then-verdict-eq0 : goal.returns-then-verdict-eq0
-returns-then-verdict-eq0 c =
-    search of_zero
+pub returns-in_default : goal.returns-in_default
+returns-in_default c =
+    let h = c.in_default in
+    too_low _ _ (λ e. omega arith) (omega arith)
 
-pub returns-then-verdict-lt-FIRST_RULE : goal.returns-then-verdict-lt-FIRST_RULE
-returns-then-verdict-lt-FIRST_RULE c =
-    search too_low
-
-pub returns-then-rule-lt-RULES : goal.returns-then-rule-lt-RULES
-returns-then-rule-lt-RULES c =
-    search of_rule
-
-pub returns : goal.returns
-returns c =
-    search too_high
+pub returns-in_default-2 : goal.returns-in_default-2
+returns-in_default-2 c =
+    let h = c.in_default in
+    too_high _ _ (omega arith)
