@@ -1,9 +1,8 @@
 -- The ways through reading an event, and the turns of reading the events. Each premise stands as the code's places have it, so that `search` finds it.
 -- Assumes nothing.
 use Prim.Native.Nat.{ℕ, ◌+◌, ◌-◌, ◌≤◌, ◌<◌, ◌^◌}
-use mathlib.Core.Path.{◌≡◌, ap, sym, ◌∙◌}
+use mathlib.Core.Path.{◌≡◌, sym}
 use mathlib.Core.List.{List, []}
-use mathlib.Core.Bool.{Bool, true, false}
 use native.Mathlib.Omega.{arith}
 use lib.ListN.{set}
 use mir.Syntax.{w8}
@@ -11,8 +10,8 @@ use mir.Val.{Fits}
 use Rattle.number.specs.Number.{read_number}
 use Rattle.number.specs.Reader.{stop, next, times}
 use Rattle.number.proofs.Laws.{read_within}
-use Rattle.model.specs.Limits.{most_addresses, most_events, most_value}
-use Rattle.model.specs.Case.{Event, bare, most_kind}
+use Rattle.model.specs.Limits.{most_addresses, most_events}
+use Rattle.model.specs.Case.{Event}
 use Rattle.model.specs.Record.{event}
 use Rattle.reader.specs.Answers.{Counts, Events, model_event}
 use Rattle.reader.specs.declared.Event as code

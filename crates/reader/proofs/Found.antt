@@ -2,17 +2,16 @@
 -- Assumes nothing.
 use Prim.Native.Nat.{ℕ, ◌≤◌}
 use native.Mathlib.Omega.{arith}
-use mathlib.Core.Path.{◌≡◌, refl, sym, ap, ◌∙◌, subst}
+use mathlib.Core.Path.{◌≡◌, sym, ap, ◌∙◌, subst}
 use mathlib.Core.List.{List}
 use lib.ListN.{length, drop, length-append}
-use Rattle.number.specs.Reader.{Out, stop, next}
+use Rattle.number.specs.Reader.{next}
 use Rattle.number.specs.Number.{Bytes}
 use Rattle.model.specs.Case.{Case}
 use Rattle.model.specs.Record.{read}
 use Rattle.model.specs.Written.{record_of}
 use Rattle.model.specs.Fits.{Fits}
 use Rattle.laws.proofs.ExactCase.{Readable, readable}
-use Rattle.laws.proofs.ExtentCase.{refusal-least}
 use Rattle.case.specs.Held.{case_of, held}
 use Rattle.case.specs.Sound.{Sound}
 use Rattle.case.proofs.HeldBack.{fits_back}

@@ -3,14 +3,14 @@
 use Prim.Native.Nat.{ℕ, ◌+◌, ◌-◌, ◌*◌, ◌%◌, ◌^◌, ◌≤◌, ◌<◌}
 use mathlib.Core.Path.{◌≡◌, refl, ap, sym, ◌∙◌}
 use mathlib.Core.List.{List}
-use mathlib.Core.Bool.{Bool, true, false, ◌&&◌}
+use mathlib.Core.Bool.{Bool, true, ◌&&◌}
 use native.Mathlib.Omega.{arith}
 use native.Mathlib.Nat.{mul-le-mul}
 use lib.Bits.{bit_or}
 use lib.ListN.{length, get_or}
 use lib.Seq.{set-set, get_or-set_same}
 use lib.Dec.{eqb, ltb, leb}
-use borrow.Author.Tests.{le-leb, le-ltb, lt-ltb, eq-eqb, ne_eqb, ltb-true, leb-true, eqb-true}
+use borrow.Author.Tests.{le-leb, le-ltb, ltb-true, leb-true, eqb-true}
 use Rattle.finite.proofs.Tests.{and_l, and_r}
 use mir.Syntax.{w64}
 use mir.Val.{Fits}

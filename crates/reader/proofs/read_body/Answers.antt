@@ -1,6 +1,6 @@
 use Rattle.std.proofs.lemmas.Result.{err_from_is_err_and}
 use Rattle.reader.proofs.Links.{no_links_yet}
-use Rattle.reader.proofs.Whole.{head-counts, no_events, listing-few, no_listing, no_links, no_rest, ends_behind, whole}
+use Rattle.reader.proofs.Whole.{head-counts, no_events, no_listing, no_links, no_rest, ends_behind, whole}
 use Rattle.reader.proofs.read_body.Goals as goal
 
 pub read_listing-requires-clause-counts : goal.read_listing-requires-clause-counts

@@ -1,6 +1,5 @@
 use Rattle.std.proofs.lemmas.Result.{err_from_is_err_and}
-use native.Mathlib.Omega.{arith}
-use Rattle.reader.proofs.Orders.{begun, refusal, some-events, place-fits, place_in, bit_in, low_fits, low_in, row_in, row_fits', least_fits, run-less, one-run, all_read}
+use Rattle.reader.proofs.Orders.{begun, refusal, some-events, place-fits, place_in, bit_in, low_fits, low_in, row_in, one-run, all_read}
 use Rattle.reader.proofs.read_pairs.Goals as goal
 
 pub loop-left-init : goal.loop-left-init

@@ -1,5 +1,4 @@
 use native.Mathlib.Omega.{arith}
-use mathlib.Core.Path.{refl}
 use Rattle.reader.proofs.Runs.{second_there, second_fits, next_fits, some_left, fewer_left, one_taken}
 use Rattle.reader.proofs.take_pairs.Goals as goal
 
