@@ -7,6 +7,10 @@ use native.Mathlib.Omega.{arith}
 use lib.ListN.{length, length-append}
 use Rattle.number.specs.Reader.{Out, stop, next, Reader, turns, another}
 use Rattle.number.proofs.Turns.{turns-none, turns-stop, turns_next, another-stop, another-next}
+use Rattle.std.specs.Prelude.{Result, Err}
+use Rattle.std.specs.Result.{IsErr, IsErrAnd}
+use Rattle.std.proofs.lemmas.Result.{err_from_is_err_and}
+use Rattle.number.specs.declared.Refusal.{Refusal}
 use Rattle.reader.specs.Answers.{Done}
 
 -- of k things i are read, each by the reader r that goes by those before it, and stored
@@ -39,6 +43,10 @@ module _ {A : Type 0} (Stored : List A → Type 0) (r : List A → Reader A) (al
       few = omega arith;
       same = sym (turns_next (λ as'. another (r as') as') s (k - i) (k - (i + 1)) h.read (h.read ++ (a ∷ [])) at p (omega arith) (another-next (r h.read) h.read s at a p (f h.read h.count h.stored))) ∙ h.same;
     }
+
+-- at the exit of a `?`: what is so of a refusal is so of what the exit gives
+pub exit : {T : Type 0} (R : Result T Refusal → Type 0) (r : Result T Refusal) (e : Refusal) → IsErr r × IsErrAnd r (λ y. y ≡ e) → R (Err e) → R r
+exit R r e h g = let p = err_from_is_err_and r h.1 in rw (p.1, p.2) g
 
 -- what is stored so is stored so too
 pub done-map : {A : Type 0} (S T : A → Type 0) → ((a : A) → S a → T a) → (o : Out A) (p : ℕ) → Done S o p → Done T o p

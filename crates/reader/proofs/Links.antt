@@ -16,11 +16,11 @@ use Rattle.model.specs.Case.{Dependency, most_class}
 use Rattle.model.specs.Record.{dependency_rank, least_after, rising_dependency, rising_dependencies, dependencies}
 use Rattle.model.specs.Fits.{DependencyFits}
 use Rattle.model.proofs.Faultless.{least_first, least-next}
-use Rattle.case.specs.Held.{pad, link}
+use Rattle.case.specs.Held.{pad, link_of, Among}
 use Rattle.case.proofs.Pad.{pad-next}
 use Rattle.case.proofs.Links.{rank_most}
-use Rattle.reader.specs.Answers.{Links, Done, Counted, model_link}
-use Rattle.reader.specs.declared.Link as code
+use Rattle.reader.specs.Answers.{Links, Done, Counted}
+use Rattle.case.specs.declared.Link as code
 use Rattle.reader.proofs.Forward.{gone, forward_under, forward_rising_dependency, forward_links}
 use Rattle.reader.proofs.Filling.{Filling, filling_begun, filling_all, filling_stop, filling_next, done-map}
 
@@ -54,21 +54,15 @@ module _ (s : List ℕ) (at k total : ℕ) (good : Dependency → Bool) where
         links_stop x p g =
             filling_stop _ _ _ _ _ _ _ h l x p (λ ds c t. ap (λ (x : ℕ). rising_dependency k x good s p₀) (sym t.least_is) ∙ sym g)
 
-        module _ (v : code.Link) (p : ℕ) (g : next (model_link v) p ≡ rising_dependency k least good s p₀) where
+        module _ (v : code.Link) (p : ℕ) (g : next (link_of v) p ≡ rising_dependency k least good s p₀) where
           abbrev read : Dependency
-          read = link v.class v.from v.to
+          read = link_of v
 
           in_range : DependencyFits k read
           in_range = (gone (forward_rising_dependency {s = s} k least good) p₀ read p (sym g)).holds.0
 
-          pub class_most : v.class ≤ most_class
-          class_most = in_range.class
-
-          pub from_below : v.from < k
-          from_below = in_range.from
-
-          pub to_below : v.to < k
-          to_below = in_range.to
+          pub among : Among k v
+          among = record { class = in_range.class; from = in_range.from; to = in_range.to }
 
           pub class-byte : Fits w8 v.class
           class-byte = record { fits = omega (arith, in_range.class) }

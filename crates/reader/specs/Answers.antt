@@ -9,7 +9,6 @@ use Rattle.model.specs.Record.{Pair, Rows, Head, Listing, Rest, no_pairs, next_p
 use Rattle.model.specs.Answers.{Part}
 use Rattle.case.specs.Held.{held, pad, rows_of}
 use Rattle.reader.specs.declared.Event as an_event
-use Rattle.reader.specs.declared.Link as a_link
 use Rattle.reader.specs.declared.Pair as a_pair
 use Rattle.reader.specs.declared.Head as a_head
 use Rattle.reader.specs.declared.Reading.{Reading}
@@ -38,19 +37,9 @@ abbrev pub part_of : Part → NamePart
 part_of p = record { at = p.at; length = p.length }
 
 -- What is read without being stored
--- an event's address and value, behind its kind and thread
-unfoldable pub access : (kind thread m : ℕ) → Reader Event
-access kind thread m = do
-  address ← below m
-  value ← up_to most_value
-  give (record { kind = kind; thread = thread; address = address; value = value })
-
 -- what it is in the model's terms
 abbrev pub model_event : an_event.Event → Event
 model_event e = record { kind = e.kind; thread = e.thread; address = e.address; value = e.value }
-
-abbrev pub model_link : a_link.Link → Dependency
-model_link d = record { class = d.class; from = d.from; to = d.to }
 
 abbrev pub model_pair : a_pair.Pair → Pair
 model_pair q = record { a = q.a; b = q.b }

@@ -7,11 +7,11 @@ ghost use Rattle.bits.specs.Bit.{bit};
 ghost use Rattle.model.specs.Limits.{most_threads, most_addresses, most_events, most_dependencies, most_value, most_name};
 ghost use Rattle.model.specs.Record.{event, rising_dependency, rising_dependencies, dependencies as dependencies_of, rising_pair, order, unlisted, write_order, next_write_order, text, head as head_of, listing as listing_of, rest as rest_of, case as case_at, read};
 ghost use Rattle.model.specs.Answers.{name as name_of, name_part};
-ghost use Rattle.case.specs.Held.{good_at};
+ghost use Rattle.case.specs.Held.{good_at, link_of};
 ghost use Rattle.case.specs.Stores.{store_at};
-ghost use Rattle.reader.specs.Answers.{access, model_event, model_link, model_pair, model_head, Stores, StoresCounted, Events, Links, pairs, Ran, at_once, follows_at, Rose, Padded, Tabled, Counts, ListingStored, RestStored, ReadingOf, ReadingFrom, part_of};
+ghost use Rattle.reader.specs.Answers.{model_event, model_pair, model_head, Stores, StoresCounted, Events, Links, pairs, Ran, at_once, follows_at, Rose, Padded, Tabled, Counts, ListingStored, RestStored, ReadingOf, ReadingFrom, part_of};
 
-use case::Case;
+use case::{Case, Link};
 use number::{Fault, Refusal};
 
 // A record's case and its length.
@@ -34,14 +34,6 @@ pub struct Event {
     pub thread: u8,
     pub address: u8,
     pub value: u32,
-}
-
-// A dependency: its class, and the events that it goes from and to.
-#[derive(Clone, Copy)]
-pub struct Link {
-    pub class: usize,
-    pub from: usize,
-    pub to: usize,
 }
 
 // Where a run of a row's pairs ends: the next place, the least event that may follow in the row, the row, and how many pairs are left.
@@ -68,31 +60,8 @@ pub struct Head {
     pub addresses: usize,
 }
 
-// Reads the address and the value of an event; gives the event, and where the next one starts.
-#[tactic(auto, unfolding(crate::specs::Answers::access, number::specs::Reader::up_to, number::specs::Reader::below))]
-fn read_access(
-    bytes: &[u8],
-    at: usize,
-    kind: u8,
-    thread: u8,
-    addresses: usize,
-) -> Result<(Event, usize), Refusal>
-    requires { (1 ≤ addresses) × (addresses ≤ most_addresses) }
-    ensures { outcome_by model_event result ≡ access kind thread addresses bytes.now at }
-{
-    let (address, after_address) = number::read_number(bytes, at, (addresses - 1) as u32)?;
-    let (value, after_value) = number::read_number(bytes, after_address, Case::MOST_VALUE)?;
-    let event = Event {
-        kind,
-        thread,
-        address: address as u8,
-        value,
-    };
-    Ok((event, after_value))
-}
-
-// Reads an event of a record with the head.
-#[tactic(auto, unfolding(crate::specs::Answers::access, model::specs::Record::event, number::specs::Reader::up_to, number::specs::Reader::below))]
+// Reads an event of a record with the head; gives it, and where the next one starts.
+#[tactic(auto, unfolding(model::specs::Record::event, number::specs::Reader::up_to, number::specs::Reader::below))]
 fn read_event(bytes: &[u8], at: usize, head: Head) -> Result<(Event, usize), Refusal>
     requires { Counts head.threads head.addresses }
     ensures { outcome_by model_event result ≡ event head.edition head.threads head.addresses bytes.now at }
@@ -100,22 +69,27 @@ fn read_event(bytes: &[u8], at: usize, head: Head) -> Result<(Event, usize), Ref
     let most_kind = u32::from(case::most_kind(head.edition));
     let (kind, after_kind) = number::read_number(bytes, at, most_kind)?;
     let (thread, after_thread) = number::read_number(bytes, after_kind, (head.threads - 1) as u32)?;
-    if case::bare(kind as u8) {
+    let kind = kind as u8;
+    let thread = thread as u8;
+    if case::bare(kind) {
         let event = Event {
-            kind: kind as u8,
-            thread: thread as u8,
+            kind,
+            thread,
             address: 0,
             value: 0,
         };
         return Ok((event, after_thread));
     }
-    read_access(
-        bytes,
-        after_thread,
-        kind as u8,
-        thread as u8,
-        head.addresses,
-    )
+    let most_address = (head.addresses - 1) as u32;
+    let (address, after_address) = number::read_number(bytes, after_thread, most_address)?;
+    let (value, end) = number::read_number(bytes, after_address, Case::MOST_VALUE)?;
+    let event = Event {
+        kind,
+        thread,
+        address: address as u8,
+        value,
+    };
+    Ok((event, end))
 }
 
 // Reads count events into four arrays that hold zeros; gives where they end.
@@ -157,7 +131,7 @@ fn read_link(
     owners: &[u8; Case::MOST_EVENTS],
 ) -> Result<(Link, usize), Refusal>
     requires { k ≤ most_events }
-    ensures { outcome_by model_link result ≡ rising_dependency k least (good_at k kinds.now owners.now) bytes.now at }
+    ensures { outcome_by link_of result ≡ rising_dependency k least (good_at k kinds.now owners.now) bytes.now at }
 {
     let (class, after_class) = number::read_number(bytes, at, Case::MOST_CLASS as u32)?;
     let (from, after_from) = number::read_under(bytes, after_class, k as u32)?;
@@ -167,7 +141,7 @@ fn read_link(
         from: from as usize,
         to: to as usize,
     };
-    if case::link_follows(kinds, owners, k, least, link.class, link.from, link.to) {
+    if link.follows(kinds, owners, k, least) {
         return Ok((link, after_to));
     }
     Err(Fault::Turn.at(at))
@@ -197,7 +171,7 @@ fn read_links(
         classes[i] = link.class as u8;
         froms[i] = link.from as u8;
         tos[i] = link.to as u8;
-        least = case::link_rank(k, link.class, link.from, link.to) + 1;
+        least = link.rank(k) + 1;
         place = next;
     }
     Ok(place)
@@ -266,37 +240,32 @@ fn without_room(size: usize, at: usize, pairs: usize) -> usize
     pairs.saturating_sub(size.saturating_sub(at) / 2)
 }
 
-// Whether a pair is left, and the two bytes at a place are one of row a whose second event is low or above.
+// Whether a pair of the run is left, and the two bytes at its place are one of row a that rises.
 #[tactic(auto, unfolding(crate::specs::Answers::follows_at))]
-fn follows(bytes: &[u8], at: usize, a: usize, low: usize, left: usize) -> bool
-    requires { left * 2 ≤ length bytes.now - at }
-    ensures { result ≡ follows_at bytes.now at a low left }
+fn follows(bytes: &[u8], a: usize, run: Run) -> bool
+    requires { run.left * 2 ≤ length bytes.now - run.place }
+    ensures { result ≡ follows_at bytes.now run.place a run.low run.left }
 {
-    0 < left && usize::from(bytes[at]) == a && low <= usize::from(bytes[at + 1])
+    0 < run.left
+        && usize::from(bytes[run.place]) == a
+        && run.low <= usize::from(bytes[run.place + 1])
 }
 
-// Takes at most so many pairs of row a, of two bytes each, as long as they rise. Since they do, the caller need only ask whether the last is below k.
-fn take_pairs(bytes: &[u8], at: usize, a: usize, from: usize, old: u64, most: usize) -> Run
-    requires { most * 2 ≤ length bytes.now - at }
-    ensures { Rose bytes.now a at from old most result.place result.low result.row result.left }
+// Takes the pairs of a run of row a, of two bytes each, as long as they rise. Since they do, the caller need only ask whether the last is below k.
+// The loop counts by itself: how many pairs are left is part of what it gives.
+fn take_pairs(bytes: &[u8], a: usize, start: Run) -> Run
+    requires { start.left * 2 ≤ length bytes.now - start.place }
+    ensures { Rose bytes.now a start.place start.low start.row start.left result.place result.low result.row result.left }
 {
-    let mut place = at;
-    let mut low = from;
-    let mut row = old;
-    let mut left = most;
-    while follows(bytes, place, a, low, left) {
-        let b = usize::from(bytes[place + 1]);
-        row = bits::with(row, b % Case::MOST_EVENTS);
-        low = b + 1;
-        place += 2;
-        left -= 1;
+    let mut run = start;
+    while follows(bytes, a, run) {
+        let b = usize::from(bytes[run.place + 1]);
+        run.row = bits::with(run.row, b % Case::MOST_EVENTS);
+        run.low = b + 1;
+        run.place += 2;
+        run.left -= 1;
     }
-    Run {
-        place,
-        low,
-        row,
-        left,
-    }
+    run
 }
 
 // Whether all of the pairs tried last were taken, and as many again are left that have room.
@@ -307,40 +276,34 @@ fn goes_on(missed: usize, last: usize, left: usize) -> bool
     missed == 0 && AT_ONCE <= left - last
 }
 
-// Takes the pairs of row a that stand in two bytes each and rise, up to the first that does not: that one is read_pair's. Nothing is refused here.
-fn take_run(bytes: &[u8], at: usize, k: usize, a: usize, from: usize, old: u64, count: usize) -> Run
+// Takes the pairs of a run of row a that stand in two bytes each and rise, up to the first that does not: that one is read_pair's. Nothing is refused here.
+fn take_run(bytes: &[u8], k: usize, a: usize, start: Run) -> Run
     requires a_lt_k { (a < k) × (k ≤ most_events) }
-    requires from_le_k { from ≤ k }
-    ensures { Ran bytes.now k a at from old count result.place result.low result.row result.left }
+    requires low_le_k { start.low ≤ k }
+    ensures { Ran bytes.now k a start.place start.low start.row start.left result.place result.low result.row result.left }
 {
-    let last = without_room(bytes.len(), at, count);
-    let mut place = at;
-    let mut low = from;
-    let mut row = old;
-    let mut left = count;
+    let last = without_room(bytes.len(), start.place, start.left);
+    let mut run = start;
     let mut missed: usize = 0;
-    while goes_on(missed, last, left) {
-        let run = take_pairs(bytes, place, a, low, row, AT_ONCE);
-        place = run.place;
-        low = run.low;
-        row = run.row;
-        missed = run.left;
-        left = left - AT_ONCE + missed;
-    }
-    if k < low {
-        return Run {
-            place: at,
-            low: from,
-            row: old,
-            left: count,
+    while goes_on(missed, last, run.left) {
+        let taken = take_pairs(
+            bytes,
+            a,
+            Run {
+                left: AT_ONCE,
+                ..run
+            },
+        );
+        missed = taken.left;
+        run = Run {
+            left: run.left - AT_ONCE + missed,
+            ..taken
         };
     }
-    Run {
-        place,
-        low,
-        row,
-        left,
+    if k < run.low {
+        return start;
     }
+    run
 }
 
 // Reads a pair as read_pair does; one that stands in two bytes, at once.
@@ -375,8 +338,13 @@ fn read_pairs(
     let mut left = count;
     while 0 < left {
         let (pair, next) = read_next(bytes, place, k, least)?;
-        let row = bits::with(rows[pair.a], pair.b);
-        let run = take_run(bytes, next, k, pair.a, pair.b + 1, row, left - 1);
+        let start = Run {
+            place: next,
+            low: pair.b + 1,
+            row: bits::with(rows[pair.a], pair.b),
+            left: left - 1,
+        };
+        let run = take_run(bytes, k, pair.a, start);
         rows[pair.a] = run.row;
         least = pair.a * k + run.low;
         place = run.place;
@@ -622,69 +590,46 @@ fn read_body(bytes: &[u8], start: usize, head: Head, at: usize) -> Result<Readin
     requires { head_of bytes.now start ≡ next (model_head head) at }
     ensures { ReadingFrom start (case_at bytes.now start) result }
 {
-    let mut initial = [0u32; Case::MOST_ADDRESSES];
-    let mut kind = [0u8; Case::MOST_EVENTS];
-    let mut thread = [0u8; Case::MOST_EVENTS];
-    let mut address = [0u8; Case::MOST_EVENTS];
-    let mut value = [0u32; Case::MOST_EVENTS];
+    let mut case = Case::empty();
     let (events, after_events) = read_listing(
         bytes,
         at,
         head,
-        &mut initial,
-        &mut kind,
-        &mut thread,
-        &mut address,
-        &mut value,
+        &mut case.initial,
+        &mut case.kind,
+        &mut case.thread,
+        &mut case.address,
+        &mut case.value,
     )?;
-    let mut class = [0u8; Case::MOST_DEPENDENCIES];
-    let mut from = [0u8; Case::MOST_DEPENDENCIES];
-    let mut to = [0u8; Case::MOST_DEPENDENCIES];
     let (dependencies, after_links) = read_dependencies(
         bytes,
         after_events,
         head.edition,
         events,
-        &kind,
-        &thread,
-        &mut class,
-        &mut from,
-        &mut to,
+        &case.kind,
+        &case.thread,
+        &mut case.class,
+        &mut case.from,
+        &mut case.to,
     )?;
-    let mut writes = [0u8; Case::MOST_ADDRESSES * Case::MOST_EVENTS];
-    let mut rows = [0u64; Case::MOST_THREADS * Case::MOST_EVENTS];
-    let mut name = [0u8; Case::MOST_NAME];
     let (namelength, end) = read_rest(
         bytes,
         after_links,
         head,
         events,
-        &kind,
-        &address,
-        &mut writes,
-        &mut rows,
-        &mut name,
+        &case.kind,
+        &case.address,
+        &mut case.writes,
+        &mut case.rows,
+        &mut case.name,
     )?;
+    case.edition = head.edition;
+    case.threads = head.threads;
+    case.addresses = head.addresses;
+    case.events = events;
+    case.dependencies = dependencies;
+    case.namelength = namelength;
     let length = end - start;
-    let case = Case {
-        edition: head.edition,
-        threads: head.threads,
-        addresses: head.addresses,
-        events,
-        initial,
-        kind,
-        thread,
-        address,
-        value,
-        dependencies,
-        class,
-        from,
-        to,
-        writes,
-        rows,
-        name,
-        namelength,
-    };
     Ok(Reading { case, length })
 }
 

@@ -1,4 +1,5 @@
-use Rattle.std.proofs.lemmas.Result.{err_from_is_err_and}
+use Rattle.reader.specs.Answers.{StoresCounted}
+use Rattle.reader.proofs.Filling.{exit}
 use Rattle.reader.proofs.Fields.{up_to_most}
 use Rattle.reader.proofs.Links.{first-edition, no_number, no_links_read, whole_links}
 use Rattle.reader.proofs.read_dependencies.Goals as goal
@@ -9,8 +10,7 @@ returns-then-not-is_second c =
 
 pub returns-in_err-count : goal.returns-in_err-count
 returns-in_err-count c =
-    let p = err_from_is_err_and c.from_residual.result c.from_residual.ensures.1 in
-    rw (p.1, p.2) (no_number _ _ _ _ _ _ c.is_second.ensures c.if-not-is_second.false _ _ c.in_err-count.ensures)
+    exit (StoresCounted _ _ _) _ _ c.from_residual.ensures (no_number _ _ _ _ _ _ c.is_second.ensures c.if-not-is_second.false _ _ c.in_err-count.ensures)
 
 pub read_links-requires-clause-count_le_most_dependencies : goal.read_links-requires-clause-count_le_most_dependencies
 read_links-requires-clause-count_le_most_dependencies c =
@@ -18,8 +18,7 @@ read_links-requires-clause-count_le_most_dependencies c =
 
 pub returns-in_err-end : goal.returns-in_err-end
 returns-in_err-end c =
-    let p = err_from_is_err_and c.from_residual-in_err-end.result c.from_residual-in_err-end.ensures.1 in
-    rw (p.1, p.2) (no_links_read _ _ _ _ _ _ c.is_second.ensures c.if-not-is_second.false _ _ c.in_ok-count.ensures _ _ c.in_err-end.ensures)
+    exit (StoresCounted _ _ _) _ _ c.from_residual-in_err-end.ensures (no_links_read _ _ _ _ _ _ c.is_second.ensures c.if-not-is_second.false _ _ c.in_ok-count.ensures _ _ c.in_err-end.ensures)
 
 pub returns : goal.returns
 returns c =

@@ -1,6 +1,7 @@
 use native.Mathlib.Omega.{arith}
-use Rattle.std.proofs.lemmas.Result.{err_from_is_err_and}
-use Rattle.reader.proofs.Links.{links_begun, links_stop, class_most, from_below, to_below, class-byte, from_byte, to_byte, rank-fits, links_next, links_all}
+use Rattle.reader.specs.Answers.{Stores}
+use Rattle.reader.proofs.Filling.{exit}
+use Rattle.reader.proofs.Links.{links_begun, links_stop, among, class-byte, from_byte, to_byte, rank-fits, links_next, links_all}
 use Rattle.reader.proofs.read_links.Goals as goal
 
 pub loop-i-init : goal.loop-i-init
@@ -9,8 +10,7 @@ loop-i-init c =
 
 pub returns-in_err-link : goal.returns-in_err-link
 returns-in_err-link c =
-    let p = err_from_is_err_and c.from_residual.result c.from_residual.ensures.1 in
-    rw (p.1, p.2) (links_stop _ _ _ _ _ _ _ _ _ _ _ c.loop-i.invariant (omega arith) _ _ c.in_err-link.ensures)
+    exit (Stores _ _) _ _ c.from_residual.ensures (links_stop _ _ _ _ _ _ _ _ _ _ _ c.loop-i.invariant (omega arith) _ _ c.in_err-link.ensures)
 
 pub overflow_cast-classes : goal.overflow_cast-classes
 overflow_cast-classes c =
@@ -24,25 +24,17 @@ pub overflow_cast-tos : goal.overflow_cast-tos
 overflow_cast-tos c =
     to_byte _ _ _ _ _ _ _ _ _ _ _ c.loop-i.invariant (omega arith) _ _ c.in_ok-link.ensures c.requires.k_le_most_events
 
-pub link_rank-least-requires-clause-class_le_most_class : goal.link_rank-least-requires-clause-class_le_most_class
-link_rank-least-requires-clause-class_le_most_class c =
-    class_most _ _ _ _ _ _ _ _ _ _ _ c.loop-i.invariant (omega arith) _ _ c.in_ok-link.ensures
-
-pub link_rank-least-requires-clause-from_lt_k : goal.link_rank-least-requires-clause-from_lt_k
-link_rank-least-requires-clause-from_lt_k c =
-    from_below _ _ _ _ _ _ _ _ _ _ _ c.loop-i.invariant (omega arith) _ _ c.in_ok-link.ensures
-
-pub link_rank-least-requires-clause-to_lt_k : goal.link_rank-least-requires-clause-to_lt_k
-link_rank-least-requires-clause-to_lt_k c =
-    to_below _ _ _ _ _ _ _ _ _ _ _ c.loop-i.invariant (omega arith) _ _ c.in_ok-link.ensures
+pub rank-least-requires-clause-among : goal.rank-least-requires-clause-among
+rank-least-requires-clause-among c =
+    among _ _ _ _ _ _ _ _ _ _ _ c.loop-i.invariant (omega arith) _ _ c.in_ok-link.ensures
 
 pub overflow_add-least : goal.overflow_add-least
 overflow_add-least c =
-    rank-fits _ _ _ _ _ _ _ _ _ _ _ c.loop-i.invariant (omega arith) _ _ c.in_ok-link.ensures c.requires.k_le_most_events _ c.link_rank-least.ensures
+    rank-fits _ _ _ _ _ _ _ _ _ _ _ c.loop-i.invariant (omega arith) _ _ c.in_ok-link.ensures c.requires.k_le_most_events _ c.rank-least.ensures
 
 pub loop-i-preserved : goal.loop-i-preserved
 loop-i-preserved c =
-    links_next _ _ _ _ _ _ _ _ _ _ _ c.loop-i.invariant (omega arith) _ _ c.in_ok-link.ensures c.requires.count_le_most_dependencies _ c.link_rank-least.ensures
+    links_next _ _ _ _ _ _ _ _ _ _ _ c.loop-i.invariant (omega arith) _ _ c.in_ok-link.ensures c.requires.count_le_most_dependencies _ c.rank-least.ensures
 
 pub returns : goal.returns
 returns c =

@@ -1,16 +1,15 @@
-use Rattle.std.proofs.lemmas.Result.{err_from_is_err_and}
+use Rattle.reader.specs.Answers.{StoresCounted}
+use Rattle.reader.proofs.Filling.{exit}
 use Rattle.reader.proofs.Fields.{no_initials, no_count, no_events_read, whole-listing, up_to_most}
 use Rattle.reader.proofs.read_listing.Goals as goal
 
 pub returns-in_err-after_initials : goal.returns-in_err-after_initials
 returns-in_err-after_initials c =
-    let p = err_from_is_err_and c.from_residual.result c.from_residual.ensures.1 in
-    rw (p.1, p.2) (no_initials _ _ _ _ _ _ _ c.in_err-after_initials.ensures)
+    exit (StoresCounted _ _ _) _ _ c.from_residual.ensures (no_initials _ _ _ _ _ _ _ c.in_err-after_initials.ensures)
 
 pub returns-in_err-count : goal.returns-in_err-count
 returns-in_err-count c =
-    let p = err_from_is_err_and c.from_residual-in_err-count.result c.from_residual-in_err-count.ensures.1 in
-    rw (p.1, p.2) (no_count _ _ _ _ _ _ _ c.in_ok-after_initials.ensures _ _ c.in_err-count.ensures)
+    exit (StoresCounted _ _ _) _ _ c.from_residual-in_err-count.ensures (no_count _ _ _ _ _ _ _ c.in_ok-after_initials.ensures _ _ c.in_err-count.ensures)
 
 pub read_events-requires-clause-count_le_most_events : goal.read_events-requires-clause-count_le_most_events
 read_events-requires-clause-count_le_most_events c =
@@ -18,8 +17,7 @@ read_events-requires-clause-count_le_most_events c =
 
 pub returns-in_err-end : goal.returns-in_err-end
 returns-in_err-end c =
-    let p = err_from_is_err_and c.from_residual-in_err-end.result c.from_residual-in_err-end.ensures.1 in
-    rw (p.1, p.2) (no_events_read _ _ _ _ _ _ _ c.in_ok-after_initials.ensures _ _ c.in_ok-count.ensures _ _ c.in_err-end.ensures)
+    exit (StoresCounted _ _ _) _ _ c.from_residual-in_err-end.ensures (no_events_read _ _ _ _ _ _ _ c.in_ok-after_initials.ensures _ _ c.in_ok-count.ensures _ _ c.in_err-end.ensures)
 
 pub returns : goal.returns
 returns c =

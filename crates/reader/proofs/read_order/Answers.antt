@@ -1,4 +1,5 @@
-use Rattle.std.proofs.lemmas.Result.{err_from_is_err_and}
+use Rattle.reader.specs.Answers.{Stores}
+use Rattle.reader.proofs.Filling.{exit}
 use Rattle.reader.proofs.Orders.{square_fits_64, square_fits_32, no_count, count_in, whole-order}
 use Rattle.reader.proofs.read_order.Goals as goal
 
@@ -12,8 +13,7 @@ overflow_cast-k c =
 
 pub returns-in_err-count : goal.returns-in_err-count
 returns-in_err-count c =
-    let p = err_from_is_err_and c.from_residual.result c.from_residual.ensures.1 in
-    rw (p.1, p.2) (no_count _ _ _ _ _ c.in_err-count.ensures)
+    exit (Stores _ _) _ _ c.from_residual.ensures (no_count _ _ _ _ _ c.in_err-count.ensures)
 
 pub read_pairs-requires-clause-k_le_most_events : goal.read_pairs-requires-clause-k_le_most_events
 read_pairs-requires-clause-k_le_most_events c =

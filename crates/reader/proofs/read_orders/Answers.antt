@@ -1,4 +1,5 @@
-use Rattle.std.proofs.lemmas.Result.{err_from_is_err_and}
+use Rattle.reader.specs.Answers.{Stores}
+use Rattle.reader.proofs.Filling.{exit}
 use native.Mathlib.Omega.{arith}
 use mathlib.Core.Path.{refl}
 use Rattle.reader.proofs.Tables.{first-stop, first-read, table-stop, table-next, table-all, table-room}
@@ -7,8 +8,7 @@ use Rattle.reader.proofs.read_orders.Goals as goal
 
 pub returns-in_err-place : goal.returns-in_err-place
 returns-in_err-place c =
-    let p = err_from_is_err_and c.from_residual.result c.from_residual.ensures.1 in
-    rw (p.1, p.2) (first-stop _ _ _ _ _ c.requires.rows_value c.requires.le_threads _ _ c.in_err-place.ensures)
+    exit (Stores _ _) _ _ c.from_residual.ensures (first-stop _ _ _ _ _ c.requires.rows_value c.requires.le_threads _ _ c.in_err-place.ensures)
 
 pub loop-p-init : goal.loop-p-init
 loop-p-init c =
@@ -20,8 +20,7 @@ read_order-requires-in-loop-p-clause-rows_value c =
 
 pub returns-in_err-place-2 : goal.returns-in_err-place-2
 returns-in_err-place-2 c =
-    let p = err_from_is_err_and c.from_residual-in_err-place-2.result c.from_residual-in_err-place-2.ensures.1 in
-    rw (p.1, p.2) (table-stop _ _ _ _ _ _ _ _ _ c.loop-p.invariant (omega arith) _ _ c.in_err-place-2.ensures)
+    exit (Stores _ _) _ _ c.from_residual-in_err-place-2.ensures (table-stop _ _ _ _ _ _ _ _ _ c.loop-p.invariant (omega arith) _ _ c.in_err-place-2.ensures)
 
 pub loop-p-preserved : goal.loop-p-preserved
 loop-p-preserved c =

@@ -1,21 +1,19 @@
-use Rattle.std.proofs.lemmas.Result.{err_from_is_err_and}
+use Rattle.reader.specs.Answers.{StoresCounted}
+use Rattle.reader.proofs.Filling.{exit}
 use Rattle.reader.proofs.Fields.{no_writes, no_orders, no_length, no_name, whole-rest, up_to_most}
 use Rattle.reader.proofs.read_rest.Goals as goal
 
 pub returns-in_err-after_writes : goal.returns-in_err-after_writes
 returns-in_err-after_writes c =
-    let p = err_from_is_err_and c.from_residual.result c.from_residual.ensures.1 in
-    rw (p.1, p.2) (no_writes _ _ _ _ _ _ _ _ _ c.in_err-after_writes.ensures)
+    exit (StoresCounted _ _ _) _ _ c.from_residual.ensures (no_writes _ _ _ _ _ _ _ _ _ c.in_err-after_writes.ensures)
 
 pub returns-in_err-after_orders : goal.returns-in_err-after_orders
 returns-in_err-after_orders c =
-    let p = err_from_is_err_and c.from_residual-in_err-after_orders.result c.from_residual-in_err-after_orders.ensures.1 in
-    rw (p.1, p.2) (no_orders _ _ _ _ _ _ _ _ _ c.in_ok-after_writes.ensures _ _ c.in_err-after_orders.ensures)
+    exit (StoresCounted _ _ _) _ _ c.from_residual-in_err-after_orders.ensures (no_orders _ _ _ _ _ _ _ _ _ c.in_ok-after_writes.ensures _ _ c.in_err-after_orders.ensures)
 
 pub returns-in_err-count : goal.returns-in_err-count
 returns-in_err-count c =
-    let p = err_from_is_err_and c.from_residual-in_err-count.result c.from_residual-in_err-count.ensures.1 in
-    rw (p.1, p.2) (no_length _ _ _ _ _ _ _ _ _ c.in_ok-after_writes.ensures _ _ c.in_ok-after_orders.ensures _ _ c.in_err-count.ensures)
+    exit (StoresCounted _ _ _) _ _ c.from_residual-in_err-count.ensures (no_length _ _ _ _ _ _ _ _ _ c.in_ok-after_writes.ensures _ _ c.in_ok-after_orders.ensures _ _ c.in_err-count.ensures)
 
 pub read_name-requires-clause-i_le_most_name : goal.read_name-requires-clause-i_le_most_name
 read_name-requires-clause-i_le_most_name c =
@@ -23,8 +21,7 @@ read_name-requires-clause-i_le_most_name c =
 
 pub returns-in_err-end : goal.returns-in_err-end
 returns-in_err-end c =
-    let p = err_from_is_err_and c.from_residual-in_err-end.result c.from_residual-in_err-end.ensures.1 in
-    rw (p.1, p.2) (no_name _ _ _ _ _ _ _ _ _ c.in_ok-after_writes.ensures _ _ c.in_ok-after_orders.ensures _ _ c.in_ok-count.ensures _ _ c.in_err-end.ensures)
+    exit (StoresCounted _ _ _) _ _ c.from_residual-in_err-end.ensures (no_name _ _ _ _ _ _ _ _ _ c.in_ok-after_writes.ensures _ _ c.in_ok-after_orders.ensures _ _ c.in_ok-count.ensures _ _ c.in_err-end.ensures)
 
 pub returns : goal.returns
 returns c =

@@ -1,4 +1,5 @@
-use Rattle.std.proofs.lemmas.Result.{err_from_is_err_and}
+use Rattle.reader.specs.Answers.{Stores}
+use Rattle.reader.proofs.Filling.{exit}
 use native.Mathlib.Omega.{arith}
 use Rattle.reader.proofs.Stores.{writing_begun, writing_all, writing_some, writing_place, writing_stop, writing_byte, writing_bit, writing_next}
 use Rattle.reader.proofs.read_write_order.Goals as goal
@@ -13,8 +14,7 @@ read_store-requires c =
 
 pub returns-in_err-e : goal.returns-in_err-e
 returns-in_err-e c =
-    let p = err_from_is_err_and c.from_residual.result c.from_residual.ensures.1 in
-    rw (p.1, p.2) (writing_stop _ _ _ _ _ _ _ _ _ _ _ _ c.loop-j.invariant (omega arith) _ _ c.in_err-e.ensures)
+    exit (Stores _ _) _ _ c.from_residual.ensures (writing_stop _ _ _ _ _ _ _ _ _ _ _ _ c.loop-j.invariant (omega arith) _ _ c.in_err-e.ensures)
 
 pub overflow_cast-writes : goal.overflow_cast-writes
 overflow_cast-writes c =

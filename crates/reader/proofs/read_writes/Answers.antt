@@ -1,4 +1,5 @@
-use Rattle.std.proofs.lemmas.Result.{err_from_is_err_and}
+use Rattle.reader.specs.Answers.{Stores}
+use Rattle.reader.proofs.Filling.{exit}
 use native.Mathlib.Omega.{arith}
 use Rattle.reader.proofs.Tables.{table-begun, table-stop, table-next, table-all, table-room}
 use Rattle.case.proofs.Pad.{step-size}
@@ -14,8 +15,7 @@ read_write_order-requires-clause-writes_value c =
 
 pub returns-in_err-place : goal.returns-in_err-place
 returns-in_err-place c =
-    let p = err_from_is_err_and c.from_residual.result c.from_residual.ensures.1 in
-    rw (p.1, p.2) (table-stop _ _ _ _ _ _ _ _ _ c.loop-x.invariant (omega arith) _ _ c.in_err-place.ensures)
+    exit (Stores _ _) _ _ c.from_residual.ensures (table-stop _ _ _ _ _ _ _ _ _ c.loop-x.invariant (omega arith) _ _ c.in_err-place.ensures)
 
 pub loop-x-preserved : goal.loop-x-preserved
 loop-x-preserved c =
