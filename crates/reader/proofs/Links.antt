@@ -12,7 +12,7 @@ use mir.Val.{Fits}
 use Rattle.number.specs.Number.{read_number}
 use Rattle.number.specs.Reader.{stop, next, up_to, under}
 use Rattle.model.specs.Limits.{second, most_events, most_dependencies}
-use Rattle.model.specs.Case.{Dependency, most_class}
+use Rattle.model.specs.Case.{Dependency}
 use Rattle.model.specs.Record.{dependency_rank, least_after, rising_dependency, rising_dependencies, dependencies}
 use Rattle.model.specs.Fits.{DependencyFits}
 use Rattle.model.proofs.Faultless.{least_first, least-next}

@@ -1,9 +1,9 @@
 -- What the code's answers say, in the model's terms.
 -- Assumes nothing.
 use Rattle.std.specs.Prelude.{ℕ, ◌-◌, ◌+◌, ◌*◌, ◌≤◌, ◌<◌, ◌≡◌, Bool, ◌&&◌, List, map, length, get_or, set, eqb, ltb, leb, Result, Ok, Err}
-use Rattle.number.specs.Reader.{Out, stop, next, Reader, give, ◌>>=◌, turns, up_to, below, refused}
+use Rattle.number.specs.Reader.{Out, stop, next, Reader, give, ◌>>=◌, turns, refused}
 use Rattle.number.specs.declared.Refusal.{Refusal}
-use Rattle.model.specs.Limits.{most_threads, most_addresses, most_events, most_dependencies, most_value, most_name}
+use Rattle.model.specs.Limits.{most_threads, most_addresses, most_events, most_dependencies, most_name}
 use Rattle.model.specs.Case.{Case, Event, Dependency}
 use Rattle.model.specs.Record.{Pair, Rows, Head, Listing, Rest, no_pairs, next_pair}
 use Rattle.model.specs.Answers.{Part}
