@@ -39,7 +39,7 @@ reads_unless x test p e = record { run = λ s at t b h. simp (p.run s at t b h, 
 
 pub reads_up_to : (hi v : ℕ) → v ≤ hi → hi < 128 ^ groups → ReadsAs (up_to hi) (encode v) v
 unfolding up_to
-reads_up_to hi v l f = record { run = λ s at t b h.  (read_at s t at hi v (omega arith) l h) }
+reads_up_to hi v l f = record { run = λ s at t b h. (read_at s t at hi v (omega arith) l h) }
 
 pub reads_within : (lo hi v : ℕ) → lo ≤ v → v ≤ hi → hi < 128 ^ groups → ReadsAs (within lo hi) (encode v) v
 unfolding within
