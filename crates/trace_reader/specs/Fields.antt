@@ -1,16 +1,19 @@
 -- A step's fields read alike for every kind, and what the code's answers say.
 -- Assumes nothing.
-use Rattle.std.specs.Prelude.{ℕ, suc, ◌≡◌, Bool, cond, ◌||◌, List, map, eqb}
-use Rattle.number.specs.Reader.{Out, stop, next, Reader, give, ◌>>=◌, up_to, under}
+use Rattle.std.specs.Prelude.{ℕ, suc, ◌≡◌, Bool, cond, ◌||◌, List, map, eqb, Result, Ok, Err}
+use Rattle.number.specs.Reader.{Out, Reader, give, ◌>>=◌, up_to, under, refused}
+use Rattle.number.specs.declared.Refusal.{Refusal}
 use Rattle.model.specs.Limits.{most_addresses, most_value}
 use Rattle.storage_model.specs.Limits.{most_steps}
-use Rattle.storage_model.specs.Trace.{Trace, Step, lwsync}
+use Rattle.storage_model.specs.Trace.{Trace, Step, accept_write, accept_barrier, propagate_write, propagate_barrier, commit, respond, acknowledge, lwsync}
 use Rattle.case.specs.Held.{pad}
-use Rattle.reader.specs.Answers.{Padded}
-use Rattle.trace_reader.specs.Held.{kind_of, first_of, second_of, value_of, step_of}
+use Rattle.reader.specs.Answers.{Done, Padded}
+use Rattle.trace_reader.specs.Held.{kind_of, first_of, second_of, value_of, step_of, held_trace}
+use Rattle.trace_reader.specs.Kinds.{number_of}
 use Rattle.trace_reader.specs.declared.Step as code
-use Rattle.trace_reader.specs.declared.StepRead.{StepRead}
-use Rattle.trace_reader.specs.declared.StepRead.TheVariants as the
+use Rattle.trace_reader.specs.declared.Kind.{Kind}
+use Rattle.trace_reader.specs.declared.Kind.TheVariants.{AcceptWrite, AcceptBarrier, PropagateWrite, PropagateBarrier, Commit, Respond, Acknowledge}
+use Rattle.trace_reader.specs.declared.Trace.{Trace as Held}
 
 -- how many there are of what the first field names: the threads, unless it names a write or a barrier
 unfoldable pub first_count : (kind n w b : ℕ) → ℕ
@@ -40,14 +43,27 @@ any_fields kind firsts seconds = do
   x ← under firsts
   cond (eqb kind 7) (give (step_of kind x 0 0)) (second_field kind x seconds)
 
+-- the kind of a step
+abbrev pub kind_in : Step → Kind
+kind_in (accept_write t a v) = AcceptWrite
+kind_in (accept_barrier t c) = AcceptBarrier
+kind_in (propagate_write w t) = PropagateWrite
+kind_in (propagate_barrier b t) = PropagateBarrier
+kind_in (commit x y) = Commit
+kind_in (respond t a v) = Respond
+kind_in (acknowledge b) = Acknowledge
+
 -- a step in the code's struct
 abbrev pub held_step : Step → code.Step
-held_step x = record { kind = kind_of x; first = first_of x; second = second_of x; value = value_of x }
+held_step x = record { kind = kind_in x; first = first_of x; second = second_of x; value = value_of x }
 
--- what reading a step answers
-abbrev pub step_shown : Out Step → StepRead
-step_shown (stop x p) = the.Refused (record { number = x; place = p })
-step_shown (next x p) = the.Step (held_step x) p
+-- the step that the code's struct holds
+abbrev pub model_step : code.Step → Step
+model_step v = step_of (number_of v.kind) v.first v.second v.value
+
+-- the fields that the kind does not have are 0
+abbrev pub Exact : code.Step → Type 0
+Exact v = v ≡ held_step (model_step v)
 
 -- the steps in four arrays
 pub record Steps (kinds firsts seconds values : List ℕ) (xs : List Step) : Type 0 where
@@ -62,3 +78,8 @@ pub record Listing (n m : ℕ) (initial kinds firsts seconds values : List ℕ) 
   pub addresses : m ≡ t.m
   pub initials : Padded most_addresses initial t.initials
   pub steps : Steps kinds firsts seconds values t.steps
+
+-- a trace that was read is held by the struct
+abbrev pub TraceRead : Out Trace → Result (Held × ℕ) Refusal → Type 0
+TraceRead o (Ok r) = Done (λ t. r.0 ≡ held_trace t) o r.1
+TraceRead o (Err e) = o ≡ refused e

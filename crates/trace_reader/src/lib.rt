@@ -1,19 +1,19 @@
 // The reading of a trace of the storage subsystem from its bytes.
 #![tactic(auto)]
 
-ghost use Rattle.std.specs.Prelude.{◌≡◌, [], ◌≤◌, ◌<◌, eqb, length, replicate};
+ghost use Rattle.std.specs.Prelude.{◌≡◌, [], ◌≤◌, ◌<◌, eqb, length, replicate, IfOk};
 ghost use Rattle.finite.specs.Tests.{tick};
-ghost use Rattle.number.specs.Reader.{turns, stop};
+ghost use Rattle.number.specs.Reader.{turns, within, outcome_by};
 ghost use Rattle.model.specs.Limits.{most_addresses};
 ghost use Rattle.storage_model.specs.Limits.{most_kind, most_steps};
 ghost use Rattle.storage_model.specs.Layout.{room_for, step, next_step, listing, read_trace};
 ghost use Rattle.reader.specs.Answers.{Counts, Stores, StoresCounted};
 ghost use Rattle.trace_reader.specs.Held.{empty_trace, reading_shown};
-ghost use Rattle.trace_reader.specs.Fields.{first_count, second_count, has_value, second_field, any_fields, step_shown, Steps, Listing};
+ghost use Rattle.trace_reader.specs.Kinds.{number_of, Numbered};
+ghost use Rattle.trace_reader.specs.Fields.{first_count, second_count, has_value, second_field, any_fields, model_step, Exact, Steps, Listing, TraceRead};
 
 use case::Case;
-use number::{NumberRead, Refusal};
-use reader::{CountRead, PlaceRead};
+use number::{Fault, Refusal};
 use storage::Storage;
 
 // A trace. Its fields and their order are those of litmus_steps in include/litmus.h.
@@ -25,7 +25,7 @@ pub struct Trace {
     pub addresses: usize,
     // by address
     pub initial: [u32; Case::MOST_ADDRESSES],
-    // how many steps; by step its kind and its fields, 0 for those that the kind does not have
+    // how many steps; by step the number of its kind and its fields, 0 for those that the kind does not have
     pub steps: usize,
     pub kind: [u8; Trace::MOST_STEPS],
     pub first: [u8; Trace::MOST_STEPS],
@@ -43,41 +43,62 @@ pub struct TraceReading {
     pub trace: Trace,
 }
 
+// The kinds of steps. The numbers are those that stand in a trace.
+#[derive(Clone, Copy, Debug, PartialEq, Eq)]
+pub enum Kind {
+    AcceptWrite = 1,
+    AcceptBarrier = 2,
+    PropagateWrite = 3,
+    PropagateBarrier = 4,
+    Commit = 5,
+    Respond = 6,
+    Acknowledge = 7,
+}
+
+impl From<Kind> for u8 {
+    ghost from_gives = { λ kind n. n ≡ number_of kind };
+
+    fn from(kind: Kind) -> u8 {
+        kind as u8
+    }
+}
+
+// No kind has the number.
+#[derive(Clone, Copy, Debug, PartialEq, Eq)]
+pub struct NoKind;
+
+impl TryFrom<u8> for Kind {
+    type Error = NoKind;
+
+    ghost try_from_gives = { Numbered };
+
+    fn try_from(number: u8) -> Result<Self, NoKind> {
+        match number {
+            1 => Ok(Kind::AcceptWrite),
+            2 => Ok(Kind::AcceptBarrier),
+            3 => Ok(Kind::PropagateWrite),
+            4 => Ok(Kind::PropagateBarrier),
+            5 => Ok(Kind::Commit),
+            6 => Ok(Kind::Respond),
+            7 => Ok(Kind::Acknowledge),
+            _ => Err(NoKind),
+        }
+    }
+}
+
 // A step: its kind and its fields, 0 for those that the kind does not have.
 #[derive(Clone, Copy)]
 pub struct Step {
-    pub kind: u8,
+    pub kind: Kind,
     pub first: u8,
     pub second: u8,
     pub value: u32,
 }
 
-// A step and the next place, or a refusal.
-#[derive(Clone, Copy)]
-pub enum StepRead {
-    Step(Step, usize),
-    Refused(Refusal),
-}
-
 impl Trace {
     pub const MOST_STEPS: usize = 128;
 
-    // the kinds of steps
-    pub const ACCEPT_WRITE: u8 = 1;
-
-    pub const ACCEPT_BARRIER: u8 = 2;
-
-    pub const PROPAGATE_WRITE: u8 = 3;
-
-    pub const PROPAGATE_BARRIER: u8 = 4;
-
-    pub const COMMIT: u8 = 5;
-
-    pub const RESPOND: u8 = 6;
-
-    pub const ACKNOWLEDGE: u8 = 7;
-
-    pub const MOST_KIND: u8 = Trace::ACKNOWLEDGE;
+    pub const MOST_KIND: u8 = Kind::Acknowledge as u8;
 
     // A trace with nothing in it, which no bytes give: what stands beside a refusal.
     pub fn empty() -> Trace
@@ -96,120 +117,126 @@ impl Trace {
     }
 }
 
-// Whether a step of the kind may follow so many writes and barriers.
-fn room_for(kind: u8, writes: usize, barriers: usize) -> bool
-    ensures { result ≡ room_for writes barriers kind }
-{
-    if kind == Trace::ACCEPT_WRITE {
-        return writes < Storage::MOST_WRITES;
+impl Kind {
+    // Whether a step of the kind may follow so many writes and barriers.
+    #[tactic(auto, unfolding(storage_model::specs::Layout::room_for))]
+    fn has_room(self, writes: usize, barriers: usize) -> bool
+        ensures { result ≡ room_for writes barriers (number_of self) }
+    {
+        match self {
+            Kind::AcceptWrite => writes < Storage::MOST_WRITES,
+            Kind::AcceptBarrier => barriers < Storage::MOST_BARRIERS,
+            _ => true,
+        }
     }
-    if kind == Trace::ACCEPT_BARRIER {
-        return barriers < Storage::MOST_BARRIERS;
+
+    // How many threads, writes or barriers there are of which a step's first field names one.
+    #[tactic(auto, unfolding(crate::specs::Fields::first_count))]
+    fn first_count(self, threads: usize, writes: usize, barriers: usize) -> usize
+        ensures { result ≡ first_count (number_of self) threads writes barriers }
+    {
+        match self {
+            Kind::PropagateWrite | Kind::Commit => writes,
+            Kind::PropagateBarrier | Kind::Acknowledge => barriers,
+            Kind::AcceptWrite | Kind::AcceptBarrier | Kind::Respond => threads,
+        }
     }
-    true
+
+    // Whether steps of the kind have a value.
+    #[tactic(auto, unfolding(crate::specs::Fields::has_value))]
+    fn has_value(self) -> bool
+        ensures { result ≡ has_value (number_of self) }
+    {
+        matches!(self, Kind::AcceptWrite | Kind::Respond)
+    }
+
+    // How many threads, addresses, classes or writes there are of which a step's second field names one.
+    #[tactic(auto, unfolding(crate::specs::Fields::second_count, crate::specs::Fields::has_value))]
+    fn second_count(self, threads: usize, addresses: usize, writes: usize) -> usize
+        ensures { result ≡ second_count (number_of self) threads addresses writes }
+    {
+        match self {
+            Kind::AcceptWrite | Kind::Respond => addresses,
+            Kind::AcceptBarrier => Storage::CLASSES,
+            Kind::Commit => writes,
+            Kind::PropagateWrite | Kind::PropagateBarrier | Kind::Acknowledge => threads,
+        }
+    }
 }
 
-// How many threads, writes or barriers there are of which a step's first field names one.
-fn first_count(kind: u8, threads: usize, writes: usize, barriers: usize) -> usize
-    requires threads_le_most_steps { threads ≤ most_steps }
-    requires writes_le_most_steps { (writes ≤ most_steps) × (barriers ≤ most_steps) }
-    ensures { (result ≡ first_count kind threads writes barriers) × (result ≤ most_steps) }
+// Reads the number of a kind.
+fn read_kind(bytes: &[u8], at: usize) -> Result<(Kind, usize), Refusal>
+    ensures { outcome_by number_of result ≡ within 1 most_kind bytes.now at }
 {
-    if kind == Trace::PROPAGATE_WRITE {
-        return writes;
+    let (number, next) = number::read_within(bytes, at, 1, Trace::MOST_KIND as u32)?;
+    match Kind::try_from(number as u8) {
+        Ok(kind) => Ok((kind, next)),
+        Err(_) => unreachable!(),
     }
-    if kind == Trace::COMMIT {
-        return writes;
-    }
-    if kind == Trace::PROPAGATE_BARRIER {
-        return barriers;
-    }
-    if kind == Trace::ACKNOWLEDGE {
-        return barriers;
-    }
-    threads
-}
-
-// Whether steps of the kind have a value.
-fn has_value(kind: u8) -> bool
-    ensures { result ≡ has_value kind }
-{
-    if kind == Trace::ACCEPT_WRITE {
-        return true;
-    }
-    kind == Trace::RESPOND
-}
-
-// How many threads, addresses, classes or writes there are of which a step's second field names one.
-fn second_count(kind: u8, threads: usize, addresses: usize, writes: usize) -> usize
-    requires threads_le_most_steps { (threads ≤ most_steps) × (addresses ≤ most_steps) }
-    requires writes_le_most_steps { writes ≤ most_steps }
-    ensures { (result ≡ second_count kind threads addresses writes) × (result ≤ most_steps) }
-{
-    if has_value(kind) {
-        return addresses;
-    }
-    if kind == Trace::ACCEPT_BARRIER {
-        return Storage::CLASSES;
-    }
-    if kind == Trace::COMMIT {
-        return writes;
-    }
-    threads
 }
 
 // Reads the second field of a step, which is below count, and the value if the kind has one.
-fn read_second(bytes: &[u8], at: usize, kind: u8, first: u8, count: usize) -> StepRead
-    requires le_kind { (1 ≤ kind) × (kind < most_kind) }
+#[tactic(auto, unfolding(crate::specs::Fields::second_field, crate::specs::Fields::value_field, number::specs::Reader::up_to))]
+fn read_second(
+    bytes: &[u8],
+    at: usize,
+    kind: Kind,
+    first: u8,
+    count: usize,
+) -> Result<(Step, usize), Refusal>
+    requires kind_lt_most_kind { number_of kind < most_kind }
     requires count_le_most_steps { count ≤ most_steps }
-    ensures { result ≡ step_shown (second_field kind first count bytes.now at) }
+    ensures same { outcome_by model_step result ≡ second_field (number_of kind) first count bytes.now at }
+    ensures exact { IfOk result (λ r. Exact r.0) }
 {
-    let second_read = number::read_under(bytes, at, count as u32);
-    let NumberRead::Number(second, after_second) = second_read else {
-        return StepRead::Refused(number::refused(second_read));
-    };
-    if !has_value(kind) {
+    let (second, after_second) = number::read_under(bytes, at, count as u32)?;
+    let second = second as u8;
+    if !kind.has_value() {
         let step = Step {
             kind,
             first,
-            second: second as u8,
+            second,
             value: 0,
         };
-        return StepRead::Step(step, after_second);
+        return Ok((step, after_second));
     }
-    let value_read = number::read_number(bytes, after_second, Case::MOST_VALUE);
-    let NumberRead::Number(value, after_value) = value_read else {
-        return StepRead::Refused(number::refused(value_read));
-    };
+    let (value, after_value) = number::read_number(bytes, after_second, Case::MOST_VALUE)?;
     let step = Step {
         kind,
         first,
-        second: second as u8,
+        second,
         value,
     };
-    StepRead::Step(step, after_value)
+    Ok((step, after_value))
 }
 
 // Reads the fields of a step, of which the first and the second are below these counts.
-fn read_fields(bytes: &[u8], at: usize, kind: u8, firsts: usize, seconds: usize) -> StepRead
-    requires le_kind { (1 ≤ kind) × (kind ≤ most_kind) }
-    requires firsts_le_most_steps { (firsts ≤ most_steps) × (seconds ≤ most_steps) }
-    ensures { result ≡ step_shown (any_fields kind firsts seconds bytes.now at) }
+#[tactic(auto, unfolding(crate::specs::Fields::any_fields))]
+fn read_fields(
+    bytes: &[u8],
+    at: usize,
+    kind: Kind,
+    firsts: usize,
+    seconds: usize,
+) -> Result<(Step, usize), Refusal>
+    requires { (firsts ≤ most_steps) × (seconds ≤ most_steps) }
+    ensures same { outcome_by model_step result ≡ any_fields (number_of kind) firsts seconds bytes.now at }
+    ensures exact { IfOk result (λ r. Exact r.0) }
 {
-    let first_read = number::read_under(bytes, at, firsts as u32);
-    let NumberRead::Number(first, after_first) = first_read else {
-        return StepRead::Refused(number::refused(first_read));
-    };
-    if kind == Trace::ACKNOWLEDGE {
-        let step = Step {
-            kind,
-            first: first as u8,
-            second: 0,
-            value: 0,
-        };
-        return StepRead::Step(step, after_first);
+    let (first, after_first) = number::read_under(bytes, at, firsts as u32)?;
+    let first = first as u8;
+    match kind {
+        Kind::Acknowledge => {
+            let step = Step {
+                kind,
+                first,
+                second: 0,
+                value: 0,
+            };
+            Ok((step, after_first))
+        }
+        _ => read_second(bytes, after_first, kind, first, seconds),
     }
-    read_second(bytes, after_first, kind, first as u8, seconds)
 }
 
 // Reads a step that follows so many writes and barriers.
@@ -220,34 +247,29 @@ fn read_step(
     addresses: usize,
     writes: usize,
     barriers: usize,
-) -> StepRead
+) -> Result<(Step, usize), Refusal>
     requires counts { Counts threads addresses }
     requires writes_le_most_steps { (writes ≤ most_steps) × (barriers ≤ most_steps) }
-    ensures { result ≡ step_shown (step threads addresses writes barriers bytes.now at) }
+    ensures same { outcome_by model_step result ≡ step threads addresses writes barriers bytes.now at }
+    ensures exact { IfOk result (λ r. Exact r.0) }
 {
-    let kind_read = number::read_within(bytes, at, 1, Trace::MOST_KIND as u32);
-    let NumberRead::Number(kind, after_kind) = kind_read else {
-        return StepRead::Refused(number::refused(kind_read));
-    };
-    if room_for(kind as u8, writes, barriers) {
-        let firsts = first_count(kind as u8, threads, writes, barriers);
-        let seconds = second_count(kind as u8, threads, addresses, writes);
-        return read_fields(bytes, after_kind, kind as u8, firsts, seconds);
+    let (kind, after_kind) = read_kind(bytes, at)?;
+    if !kind.has_room(writes, barriers) {
+        return Err(Fault::Range.at(at));
     }
-    StepRead::Refused(Refusal {
-        number: 3,
-        place: at,
-    })
+    let firsts = kind.first_count(threads, writes, barriers);
+    let seconds = kind.second_count(threads, addresses, writes);
+    read_fields(bytes, after_kind, kind, firsts, seconds)
 }
 
 // What a step of a kind adds to the count of the steps of kind which.
-fn counted(kind: u8, which: u8) -> usize
-    ensures { (result ≡ tick (eqb kind which)) × (result ≤ 1) }
+fn counted(kind: Kind, which: Kind) -> usize
+    ensures { (result ≡ tick (eqb (number_of kind) (number_of which))) × (result ≤ 1) }
 {
-    if kind == which { 1 } else { 0 }
+    usize::from(u8::from(kind) == u8::from(which))
 }
 
-// Reads count steps into four arrays that hold zeros.
+// Reads count steps into four arrays that hold zeros; gives where they end.
 fn read_steps(
     bytes: &[u8],
     at: usize,
@@ -258,7 +280,7 @@ fn read_steps(
     firsts: &mut [u8; Trace::MOST_STEPS],
     seconds: &mut [u8; Trace::MOST_STEPS],
     values: &mut [u32; Trace::MOST_STEPS],
-) -> PlaceRead
+) -> Result<usize, Refusal>
     requires counts { Counts threads addresses × (count ≤ most_steps) }
     requires steps { Steps kinds.old firsts.old seconds.old values.old [] }
     ensures { Stores (Steps kinds.new firsts.new seconds.new values.new) (turns count (next_step threads addresses) [] bytes.now at) result }
@@ -266,29 +288,20 @@ fn read_steps(
     let mut place = at;
     let mut writes: usize = 0;
     let mut barriers: usize = 0;
-    let mut i: usize = 0;
-    while i < count {
-        let read = read_step(bytes, place, threads, addresses, writes, barriers);
-        match read {
-            StepRead::Refused(refusal) => {
-                return PlaceRead::Refused(refusal);
-            }
-            StepRead::Step(step, next) => {
-                kinds[i] = step.kind;
-                firsts[i] = step.first;
-                seconds[i] = step.second;
-                values[i] = step.value;
-                writes += counted(step.kind, Trace::ACCEPT_WRITE);
-                barriers += counted(step.kind, Trace::ACCEPT_BARRIER);
-                place = next;
-            }
-        }
-        i += 1;
+    for i in 0..count {
+        let (step, next) = read_step(bytes, place, threads, addresses, writes, barriers)?;
+        kinds[i] = u8::from(step.kind);
+        firsts[i] = step.first;
+        seconds[i] = step.second;
+        values[i] = step.value;
+        writes += counted(step.kind, Kind::AcceptWrite);
+        barriers += counted(step.kind, Kind::AcceptBarrier);
+        place = next;
     }
-    PlaceRead::Next(place)
+    Ok(place)
 }
 
-// Reads the initial values and the steps into arrays that hold zeros; gives how many steps.
+// Reads the initial values and the steps into arrays that hold zeros; gives how many steps, and where they end.
 fn read_listing(
     bytes: &[u8],
     at: usize,
@@ -299,60 +312,48 @@ fn read_listing(
     firsts: &mut [u8; Trace::MOST_STEPS],
     seconds: &mut [u8; Trace::MOST_STEPS],
     values: &mut [u32; Trace::MOST_STEPS],
-) -> CountRead
+) -> Result<(usize, usize), Refusal>
     requires counts { Counts threads addresses × (initial.old ≡ replicate most_addresses 0) }
     requires steps { Steps kinds.old firsts.old seconds.old values.old [] }
     ensures { StoresCounted (λ t. length t.steps) (Listing threads addresses initial.new kinds.new firsts.new seconds.new values.new) (listing threads addresses bytes.now at) result }
 {
-    let initials = reader::read_initials(bytes, at, addresses, initial);
-    let PlaceRead::Next(after_initials) = initials else {
-        return CountRead::Refused(reader::refused_at(initials));
-    };
-    let count = number::read_number(bytes, after_initials, Trace::MOST_STEPS as u32);
-    let NumberRead::Number(k, after_count) = count else {
-        return CountRead::Refused(number::refused(count));
-    };
-    let steps = read_steps(
+    let after_initials = reader::read_initials(bytes, at, addresses, initial)?;
+    let (count, after_count) = number::read_number(
+        bytes,
+        after_initials,
+        Trace::MOST_STEPS as u32,
+    )?;
+    let count = count as usize;
+    let end = read_steps(
         bytes,
         after_count,
         threads,
         addresses,
-        k as usize,
+        count,
         kinds,
         firsts,
         seconds,
         values,
-    );
-    let PlaceRead::Next(after_steps) = steps else {
-        return CountRead::Refused(reader::refused_at(steps));
-    };
-    CountRead::Count(k as usize, after_steps)
+    )?;
+    Ok((count, end))
 }
 
-// The answer to a trace that can't be read.
-fn no_trace(f: Refusal) -> TraceReading
-    ensures { result ≡ reading_shown (stop f.number f.place) }
-{
-    let trace = Trace::empty();
-    TraceReading {
-        number: f.number as u32,
-        place: f.place,
-        length: 0,
-        trace,
-    }
-}
-
-// Reads what follows the counts of threads and addresses.
-fn read_body(bytes: &[u8], at: usize, threads: usize, addresses: usize) -> TraceReading
+// Reads what follows the counts of threads and addresses; gives the trace and where it ends.
+fn read_body(
+    bytes: &[u8],
+    at: usize,
+    threads: usize,
+    addresses: usize,
+) -> Result<(Trace, usize), Refusal>
     requires { Counts threads addresses }
-    ensures { result ≡ reading_shown (listing threads addresses bytes.now at) }
+    ensures { TraceRead (listing threads addresses bytes.now at) result }
 {
     let mut initial = [0u32; Case::MOST_ADDRESSES];
     let mut kind = [0u8; Trace::MOST_STEPS];
     let mut first = [0u8; Trace::MOST_STEPS];
     let mut second = [0u8; Trace::MOST_STEPS];
     let mut value = [0u32; Trace::MOST_STEPS];
-    let read = read_listing(
+    let (steps, end) = read_listing(
         bytes,
         at,
         threads,
@@ -362,38 +363,50 @@ fn read_body(bytes: &[u8], at: usize, threads: usize, addresses: usize) -> Trace
         &mut first,
         &mut second,
         &mut value,
-    );
-    let CountRead::Count(steps, length) = read else {
-        return no_trace(reader::refused_count(read));
+    )?;
+    let trace = Trace {
+        threads,
+        addresses,
+        initial,
+        steps,
+        kind,
+        first,
+        second,
+        value,
     };
-    TraceReading {
-        number: 0,
-        place: 0,
-        length,
-        trace: Trace {
-            threads,
-            addresses,
-            initial,
-            steps,
-            kind,
-            first,
-            second,
-            value,
-        },
-    }
+    Ok((trace, end))
 }
 
-// Reads the trace that the bytes start with; what lies behind it is not read.
+// Reads the trace that the bytes start with, and gives its length; what lies behind it is not read.
+pub fn read(bytes: &[u8]) -> Result<(Trace, usize), Refusal>
+    ensures { TraceRead (read_trace bytes.now) result }
+{
+    let (threads, after_threads) = number::read_within(bytes, 0, 1, Case::MOST_THREADS as u32)?;
+    let (addresses, after_addresses) = number::read_within(
+        bytes,
+        after_threads,
+        1,
+        Case::MOST_ADDRESSES as u32,
+    )?;
+    read_body(bytes, after_addresses, threads as usize, addresses as usize)
+}
+
+// The same, as the struct that C gets.
 pub fn read_trace(bytes: &[u8]) -> TraceReading
     ensures { result ≡ reading_shown (read_trace bytes.now) }
 {
-    let threads_read = number::read_within(bytes, 0, 1, Case::MOST_THREADS as u32);
-    let NumberRead::Number(threads, after_threads) = threads_read else {
-        return no_trace(number::refused(threads_read));
-    };
-    let addresses_read = number::read_within(bytes, after_threads, 1, Case::MOST_ADDRESSES as u32);
-    let NumberRead::Number(addresses, after_addresses) = addresses_read else {
-        return no_trace(number::refused(addresses_read));
-    };
-    read_body(bytes, after_addresses, threads as usize, addresses as usize)
+    match read(bytes) {
+        Ok((trace, length)) => TraceReading {
+            number: 0,
+            place: 0,
+            length,
+            trace,
+        },
+        Err(refusal) => TraceReading {
+            number: u32::from(refusal.fault),
+            place: refusal.place,
+            length: 0,
+            trace: Trace::empty(),
+        },
+    }
 }

@@ -1,20 +1,22 @@
+-- `trace_reader::read_body` meets its contract. Assumes nothing.
 use mathlib.Core.Path.{refl}
-use Rattle.trace_reader.proofs.Whole.{no_steps, no_listing, whole_struct}
-use borrow.Author.Rules.{rules}
+use Rattle.std.proofs.lemmas.Result.{err_from_is_err_and}
+use Rattle.trace_reader.proofs.Whole.{no_steps, whole_struct}
 use Rattle.trace_reader.proofs.read_body.Goals as goal
 
-pub read_listing-read-requires-clause-counts : goal.read_listing-read-requires-clause-counts
-read_listing-read-requires-clause-counts c =
-    (search rules, refl)
+pub read_listing-requires-clause-counts : goal.read_listing-requires-clause-counts
+read_listing-requires-clause-counts c =
+    (c.requires, refl)
 
-pub read_listing-read-requires-clause-steps : goal.read_listing-read-requires-clause-steps
-read_listing-read-requires-clause-steps c =
+pub read_listing-requires-clause-steps : goal.read_listing-requires-clause-steps
+read_listing-requires-clause-steps c =
     no_steps
 
-pub returns-in_default : goal.returns-in_default
-returns-in_default c =
-    search no_listing
+pub returns-in_err-steps : goal.returns-in_err-steps
+returns-in_err-steps c =
+    let p = err_from_is_err_and c.from_residual.result c.from_residual.ensures.1 in
+    rw (p.1, p.2) (c.in_err-steps.ensures)
 
 pub returns : goal.returns
 returns c =
-    whole_struct _ _ _ _ _ _ _ _ _ _ c.read_listing-read.ensures _ _ c.in-Count.is
+    whole_struct _ _ _ _ _ _ _ c.in_ok-steps.ensures

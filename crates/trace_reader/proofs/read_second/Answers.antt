@@ -1,26 +1,16 @@
-use Rattle.trace_reader.proofs.OneStep.{under-byte, no_second, without-value, no_value, with_value}
+-- `trace_reader::read_second` meets its contract. Assumes nothing.
+use mathlib.Core.Path.{refl}
+use Rattle.trace_reader.proofs.OneStep.{under-byte, exact-fields}
 use Rattle.trace_reader.proofs.read_second.Goals as goal
 
-pub returns-in_default : goal.returns-in_default
-returns-in_default c =
-    search no_second
+pub overflow_cast-second : goal.overflow_cast-second
+overflow_cast-second c =
+    under-byte _ _ _ _ _ c.in_ok-second.ensures c.requires.count_le_most_steps
 
-pub overflow_cast-step : goal.overflow_cast-step
-overflow_cast-step c =
-    search under-byte
+pub returns-then-not-has_value-clause-exact : goal.returns-then-not-has_value-clause-exact
+returns-then-not-has_value-clause-exact c =
+    exact-fields _ _ _ _ c.requires.kind_lt_most_kind (λ _. refl)
 
-pub returns-then-not-has_value : goal.returns-then-not-has_value
-returns-then-not-has_value c =
-    search without-value
-
-pub returns-in_default-value_read : goal.returns-in_default-value_read
-returns-in_default-value_read c =
-    search no_value
-
-pub overflow_cast-step-2 : goal.overflow_cast-step-2
-overflow_cast-step-2 c =
-    search under-byte
-
-pub returns : goal.returns
-returns c =
-    search with_value
+pub returns-clause-exact : goal.returns-clause-exact
+returns-clause-exact c =
+    exact-fields _ _ _ _ c.requires.kind_lt_most_kind (λ e. cc (c.has_value.ensures, c.if-not-has_value.false, e))

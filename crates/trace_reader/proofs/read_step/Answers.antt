@@ -1,34 +1,26 @@
-use Rattle.trace_reader.proofs.OneStep.{no_kind, kind-byte, kind-least, kind_most, no_room, with_room}
+-- `trace_reader::read_step` meets its contract. Assumes nothing.
+use native.Mathlib.Omega.{arith}
+use Rattle.std.proofs.lemmas.Result.{err_from_is_err_and}
+use Rattle.trace_reader.proofs.OneStep.{no_kind, no_room, with_room, first_few, second_few}
 use Rattle.trace_reader.proofs.read_step.Goals as goal
 
-pub returns-in_default : goal.returns-in_default
-returns-in_default c =
-    search no_kind
+pub returns-in_err-kind-clause-same : goal.returns-in_err-kind-clause-same
+returns-in_err-kind-clause-same c =
+    let p = err_from_is_err_and c.from_residual.result c.from_residual.ensures.1 in
+    rw (p.1, p.2) (no_kind _ _ _ _ _ _ _ _ c.in_err-kind.ensures)
 
-pub overflow_cast-kind : goal.overflow_cast-kind
-overflow_cast-kind c =
-    search kind-byte
+pub returns-then-not-has_room-clause-same : goal.returns-then-not-has_room-clause-same
+returns-then-not-has_room-clause-same c =
+    rw c.at.ensures (no_room _ _ _ _ _ _ _ _ c.in_ok-kind.ensures c.has_room.ensures c.if-not-has_room.true)
 
-pub overflow_cast-kind-then-room_for : goal.overflow_cast-kind-then-room_for
-overflow_cast-kind-then-room_for c =
-    search kind-byte
+pub read_fields-requires : goal.read_fields-requires
+read_fields-requires c =
+    let w = c.requires.writes_le_most_steps in (
+      rw c.first_count-firsts.ensures (first_few _ _ _ _ _ (omega arith) w.0 w.1),
+      rw c.second_count-seconds.ensures (second_few _ _ _ _ _ (omega arith) (omega arith) w.0 (omega arith)),
+    )
 
-pub overflow_cast-kind-then-room_for-2 : goal.overflow_cast-kind-then-room_for-2
-overflow_cast-kind-then-room_for-2 c =
-    search kind-byte
-
-pub overflow_cast-kind-then-room_for-3 : goal.overflow_cast-kind-then-room_for-3
-overflow_cast-kind-then-room_for-3 c =
-    search kind-byte
-
-pub read_fields-requires-clause-le_kind : goal.read_fields-requires-clause-le_kind
-read_fields-requires-clause-le_kind c =
-    (search kind-least, search kind_most)
-
-pub returns-then-room_for : goal.returns-then-room_for
-returns-then-room_for c =
-    search with_room
-
-pub returns : goal.returns
-returns c =
-    search no_room
+pub returns-clause-same : goal.returns-clause-same
+returns-clause-same c =
+    with_room _ _ _ _ _ _ _ _ c.in_ok-kind.ensures c.has_room.ensures c.if-not-has_room.false c.requires.counts
+    c.first_count-firsts.ensures c.second_count-seconds.ensures c.read_fields.ensures.same

@@ -1,18 +1,11 @@
-use Rattle.trace_reader.proofs.Whole.{no_threads, no_addresses, counts_read, whole-trace}
+-- `trace_reader::read_trace` meets its contract. Assumes nothing.
+use Rattle.trace_reader.proofs.Whole.{shown_read, shown_refused}
 use Rattle.trace_reader.proofs.read_trace.Goals as goal
 
-pub returns-in_default : goal.returns-in_default
-returns-in_default c =
-    search no_threads
+pub returns-in-Ok : goal.returns-in-Ok
+returns-in-Ok c =
+    shown_read _ _ c.in-Ok.ensures
 
-pub returns-in_default-addresses_read : goal.returns-in_default-addresses_read
-returns-in_default-addresses_read c =
-    search no_addresses
-
-pub read_body-requires : goal.read_body-requires
-read_body-requires c =
-    search counts_read
-
-pub returns : goal.returns
-returns c =
-    search whole-trace
+pub returns-in-Err : goal.returns-in-Err
+returns-in-Err c =
+    shown_refused _ c.in-Err.ensures c.from.ensures c.empty.ensures
