@@ -5,7 +5,7 @@ use native.Mathlib.Omega.{arith}
 use mathlib.Core.Path.{◌≡◌, refl, sym, ap, ap₂, ◌∙◌, subst}
 use mathlib.Core.Bool.{Bool, true, false, not, ◌&&◌, ◌||◌, true≢false}
 use native.Mathlib.Nat.{mod-lt}
-use borrow.Author.Tests.{eqb-true, eq-eqb, ltb-true, lt-ltb}
+use borrow.Author.Tests.{eqb-true, eq-eqb, ne_eqb, ltb-true, lt-ltb}
 use Rattle.finite.proofs.Tests.{iff, and_l, and_r, and_i, and-swap, or_l, or_r, or_e, is_false, some-none, some_same, some_make, some_out, all_make, all_same, all-swap, imp-and, imp-all, imp_i}
 use lib.Dec.{eqb, ltb}
 use lib.Bits.{bit_and, bit_or, bit_xor, differ, xor_step, xor_shr}
@@ -93,13 +93,13 @@ paired-set k known p s = set_same s (paired_by_rows k (known p))
 pub masked : (k x : ℕ) {m r : ℕ} → r ≡ bit_and x m → m ≡ 2 ^ k - 1 → Set r (λ e. bit x e && ltb e k)
 masked k x h g = record { has = λ e. ap (λ (z : ℕ). bit z e) (h ∙ ap (bit_and x) g) ∙ bit_below x k e }
 
-pub none_below : (k x : ℕ) {r : ℕ} → Set r (λ e. bit x e && ltb e k) → r ≡ 0 → false ≡ some k (bit x)
+none_below : (k x : ℕ) {r : ℕ} → Set r (λ e. bit x e && ltb e k) → r ≡ 0 → false ≡ some k (bit x)
 none_below k x {r} s z =
     sym (some-none k (bit x)
     (λ i l. is_false (λ t. true≢false
     (sym (and_i (bit x i) (ltb i k) t (lt-ltb i k l)) ∙ sym (s.has i) ∙ ap (λ (y : ℕ). bit y i) z ∙ bit-zero i))))
 
-pub some_below : (k x : ℕ) {r : ℕ} → r < 2 ^ width → Set r (λ e. bit x e && ltb e k) → (r ≡ 0 → ⊥) → true ≡ some k (bit x)
+some_below : (k x : ℕ) {r : ℕ} → r < 2 ^ width → Set r (λ e. bit x e && ltb e k) → (r ≡ 0 → ⊥) → true ≡ some k (bit x)
 some_below k x {r} fit s z = by (some k (bit x)) refl
   where
     by : (b : Bool) → some k (bit x) ≡ b → true ≡ b
@@ -109,6 +109,10 @@ some_below k x {r} fit s z = by (some k (bit x)) refl
         let u : (bit x i && ltb i k) ≡ true = sym (s.has i) ∙ t in
         true≢false (sym (some_make k (bit x) i (ltb-true i k (and_r (bit x i) (ltb i k) u)) (and_l (bit x i) (ltb i k) u)) ∙ h))
         ∙ sym (bit-zero i))))
+
+pub any_below : (k x r : ℕ) → r < 2 ^ width → Set r (λ e. bit x e && ltb e k) → not (eqb r 0) ≡ some k (bit x)
+any_below k x zero fit s = ap not (eq-eqb 0 0 refl) ∙ none_below k x s refl
+any_below k x (suc r) fit s = ap not (ne_eqb (suc r) 0 (λ z. omega arith)) ∙ some_below k x fit s (λ z. omega arith)
 
 -- a row's events, and a
 pub paired_with : (k a mine : ℕ) {those r : ℕ} → a < k → Set those (λ e. bit mine e && ltb e k) → some k (bit mine) ≡ true → r ≡ bit_or those (2 ^ a)

@@ -94,7 +94,7 @@ pub fn after(
 {
     let mut found: u64 = 0;
     for b in bits::members_below(set, k) {
-        found = found | row(rows, p, b);
+        found |= row(rows, p, b);
     }
     found
 }
@@ -128,7 +128,7 @@ pub fn before(
 {
     let mut found: u64 = 0;
     for a in 0..k {
-        found = found | before_one(rows, p, b, a);
+        found |= before_one(rows, p, b, a);
     }
     found
 }
@@ -164,10 +164,8 @@ pub fn before_of(
     ensures { Set result (λ e. ltb e k && (bit set e && order_in rows.now p e b)) }
 {
     let mut found: u64 = 0;
-    let mut rest = bits::both(set, bits::below(k));
-    while rest != 0 {
-        found = found | before_one_of(rows, p, set, b, lowest(rest));
-        rest = but_lowest(rest);
+    for a in bits::members_below(set, k) {
+        found |= before_one_of(rows, p, set, b, a);
     }
     found
 }
@@ -184,7 +182,7 @@ pub fn after_anywhere(
 {
     let mut found: u64 = 0;
     for p in 0..n {
-        found = found | row(rows, p, a);
+        found |= row(rows, p, a);
     }
     found
 }
@@ -194,11 +192,7 @@ pub fn any(set: u64, k: usize) -> bool
     requires { k ≤ most_events }
     ensures { result ≡ some k (bit set) }
 {
-    if bits::both(set, bits::below(k)) == 0 {
-        false
-    } else {
-        true
-    }
+    bits::both(set, bits::below(k)) != 0
 }
 
 // The events of a's row and, if there are any, a.
@@ -222,7 +216,7 @@ pub fn paired(rows: &[u64; Case::MOST_THREADS * Case::MOST_EVENTS], k: usize, p:
 {
     let mut found: u64 = 0;
     for a in 0..k {
-        found = found | paired_one(row(rows, p, a), k, a);
+        found |= paired_one(row(rows, p, a), k, a);
     }
     found
 }
@@ -242,7 +236,7 @@ pub fn labelled(bytes: &[u8; Case::MOST_EVENTS], k: usize, x: u8) -> u64
 {
     let mut found: u64 = 0;
     for e in 0..k {
-        found = found | labelled_one(bytes, x, e);
+        found |= labelled_one(bytes, x, e);
     }
     found
 }
@@ -271,7 +265,7 @@ fn at_label(
     ensures { Set result (λ i. bit set e && set_in sets.now (get_or bytes.now e 0) i) }
 {
     if bits::has(set, e) {
-        sets[bytes[e] as usize]
+        sets[usize::from(bytes[e])]
     } else {
         0
     }
@@ -319,9 +313,9 @@ pub fn light(barriers: u64, stores: u64, loads: u64, k: usize) -> [u64; Case::MO
 }
 
 // By event, the events that depend on it, of so many dependencies.
-pub fn dependents<'a>(
-    froms: &'a [u8; Case::MOST_DEPENDENCIES],
-    tos: &'a [u8; Case::MOST_DEPENDENCIES],
+pub fn dependents(
+    froms: &[u8; Case::MOST_DEPENDENCIES],
+    tos: &[u8; Case::MOST_DEPENDENCIES],
     count: usize,
 ) -> [u64; Case::MOST_EVENTS]
     requires count_le_most_dependencies { count ≤ most_dependencies }
@@ -331,8 +325,8 @@ pub fn dependents<'a>(
 {
     let mut out = [0u64; Case::MOST_EVENTS];
     for i in 0..count {
-        let from = froms[i] as usize;
-        out[from] = bits::with(out[from], tos[i] as usize);
+        let from = usize::from(froms[i]);
+        out[from] = bits::with(out[from], usize::from(tos[i]));
     }
     out
 }

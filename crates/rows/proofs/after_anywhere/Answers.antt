@@ -8,14 +8,6 @@ pub loop-p-init : goal.loop-p-init
 loop-p-init c =
     search empty
 
-pub overflow_step-p : goal.overflow_step-p
-overflow_step-p c =
-    omega arith
-
-pub loop-p-smaller : goal.loop-p-smaller
-loop-p-smaller c =
-    omega arith
-
 pub loop-p-preserved : goal.loop-p-preserved
 loop-p-preserved c =
     joins c.loop-p.invariant c.loop-p-test.true (as_set c.row-found.ensures)

@@ -6,6 +6,3 @@ use Rattle.rows.proofs.after_anywhere.Given as goal
 
 abbrev pub invariant-loop-p : goal.invariant-loop-p
 invariant-loop-p l = United l.n (λ p e. order_in l.rows p l.a e) l.p l.found
-
-abbrev pub decreases-loop-p : goal.decreases-loop-p
-decreases-loop-p l = l.n - l.p

@@ -9,14 +9,6 @@ pub loop-a-init : goal.loop-a-init
 loop-a-init c =
     search empty
 
-pub overflow_step-a : goal.overflow_step-a
-overflow_step-a c =
-    omega arith
-
-pub loop-a-smaller : goal.loop-a-smaller
-loop-a-smaller c =
-    omega arith
-
 pub loop-a-preserved : goal.loop-a-preserved
 loop-a-preserved c =
     search joins

@@ -8,6 +8,3 @@ use Rattle.rows.proofs.before.Given as goal
 
 abbrev pub invariant-loop-a : goal.invariant-loop-a
 invariant-loop-a l = United l.k (λ a e. order_in l.rows l.p a l.b && eqb e a) l.a l.found
-
-abbrev pub decreases-loop-a : goal.decreases-loop-a
-decreases-loop-a l = l.k - l.a

@@ -12,14 +12,6 @@ pub at_label-requires-clause-e_bound : goal.at_label-requires-clause-e_bound
 at_label-requires-clause-e_bound c =
     c.requires.by_index c.loop-e.e c.loop-e-test.true
 
-pub overflow_step-e : goal.overflow_step-e
-overflow_step-e c =
-    omega arith
-
-pub loop-e-smaller : goal.loop-e-smaller
-loop-e-smaller c =
-    omega arith
-
 pub loop-e-preserved : goal.loop-e-preserved
 loop-e-preserved c =
     fills c.loop-e.invariant c.loop-e-test.true c.at_label.ensures

@@ -9,6 +9,3 @@ use Rattle.rows.proofs.by_event.Given as goal
 
 abbrev pub invariant-loop-e : goal.invariant-loop-e
 invariant-loop-e l = Filled l.k (λ e i. bit l.set e && set_in l.sets (get_or l.bytes e 0) i) l.e l.out
-
-abbrev pub decreases-loop-e : goal.decreases-loop-e
-decreases-loop-e l = l.k - l.e

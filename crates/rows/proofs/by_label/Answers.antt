@@ -16,14 +16,6 @@ pub loop-x-init : goal.loop-x-init
 loop-x-init c =
     unfilled (search rules)
 
-pub overflow_step-x : goal.overflow_step-x
-overflow_step-x c =
-    omega arith
-
-pub loop-x-smaller : goal.loop-x-smaller
-loop-x-smaller c =
-    omega arith
-
 pub loop-x-preserved : goal.loop-x-preserved
 loop-x-preserved c =
     let s = c.args in

@@ -10,6 +10,3 @@ use Rattle.rows.proofs.by_label.Given as goal
 
 abbrev pub invariant-loop-x : goal.invariant-loop-x
 invariant-loop-x l = Filled most_threads (λ x e. bit l.set e && (ltb e l.k && eqb (get_or l.bytes e 0) x)) l.x l.out
-
-abbrev pub decreases-loop-x : goal.decreases-loop-x
-decreases-loop-x l = most_threads - l.x

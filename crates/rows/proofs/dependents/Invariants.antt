@@ -6,7 +6,4 @@ use Rattle.rows.proofs.dependents.Given as goal
 abbrev pub invariant-loop-i : goal.invariant-loop-i
 invariant-loop-i l = Linked l.froms l.tos l.count l.i l.out
 
-abbrev pub decreases-loop-i : goal.decreases-loop-i
-decreases-loop-i l = l.count - l.i
-
 -- the events of the dependency at hand

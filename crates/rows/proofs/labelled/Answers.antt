@@ -10,14 +10,6 @@ pub loop-e-init : goal.loop-e-init
 loop-e-init c =
     search empty
 
-pub overflow_step-e : goal.overflow_step-e
-overflow_step-e c =
-    omega arith
-
-pub loop-e-smaller : goal.loop-e-smaller
-loop-e-smaller c =
-    omega arith
-
 pub loop-e-preserved : goal.loop-e-preserved
 loop-e-preserved c =
     search joins

@@ -8,6 +8,3 @@ use Rattle.rows.proofs.labelled.Given as goal
 
 abbrev pub invariant-loop-e : goal.invariant-loop-e
 invariant-loop-e l = United l.k (λ e i. eqb (get_or l.bytes e 0) l.x && eqb i e) l.e l.found
-
-abbrev pub decreases-loop-e : goal.decreases-loop-e
-decreases-loop-e l = l.k - l.e

@@ -8,6 +8,3 @@ use Rattle.rows.proofs.light.Given as goal
 
 abbrev pub invariant-loop-e : goal.invariant-loop-e
 invariant-loop-e l = Filled l.k (λ e g. ltb g l.k && light_in l.barriers l.stores l.loads e g) l.e l.out
-
-abbrev pub decreases-loop-e : goal.decreases-loop-e
-decreases-loop-e l = l.k - l.e

@@ -9,6 +9,3 @@ use Rattle.rows.proofs.paired.Given as goal
 
 abbrev pub invariant-loop-a : goal.invariant-loop-a
 invariant-loop-a l = United l.k (λ a e. ltb e l.k && (order_in l.rows l.p a e || (eqb e a && some l.k (order_in l.rows l.p a)))) l.a l.found
-
-abbrev pub decreases-loop-a : goal.decreases-loop-a
-decreases-loop-a l = l.k - l.a
