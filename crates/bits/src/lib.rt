@@ -102,6 +102,15 @@ impl Iterator for MembersLeft {
     }
 }
 
+impl MembersLeft {
+    // The events that are left, as a set.
+    pub fn set(&self) -> u64
+        ensures { result ≡ self.now }
+    {
+        self.rest
+    }
+}
+
 // The events of the set, the least first.
 pub fn members(set: u64) -> MembersLeft
     ensures { result ≡ set }

@@ -40,13 +40,13 @@ fn covered_row(
     }
     let events = bits::below(k);
     let others = rows::minus(events, mine);
-    let mut rest = bits::both(mine, events);
-    while rest != 0 {
-        let behind = rows::row(rows, p, rows::lowest(rest));
+    let mut rest = bits::members(bits::both(mine, events));
+    while let Some(b) = rest.next() {
+        let behind = rows::row(rows, p, b);
         if !apart(behind, others) {
             return false;
         }
-        rest = rows::minus(rows::but_lowest(rest), behind);
+        rest = bits::members(rows::minus(rest.set(), behind));
     }
     true
 }
@@ -114,9 +114,9 @@ fn final_part(
     ensures { FinalPart k (order_in rows.now p) result }
 {
     let events = bits::below(k);
-    let mut part = last_after(rows, k, p, sizes[1] as usize);
+    let mut part = last_after(rows, k, p, usize::from(sizes[1]));
     for i in 1..k {
-        let a = sizes[i] as usize;
+        let a = usize::from(sizes[i]);
         if bits::both(rows::row(rows, p, a), events) != part {
             return part;
         }
@@ -144,11 +144,7 @@ fn closed_order(rows: &[u64; Case::MOST_THREADS * Case::MOST_EVENTS], k: usize, 
     requires p_lt_most_threads { p < most_threads }
     ensures { result ≡ all k (closed k (order_in rows.now p) (order_in rows.now p)) }
 {
-    if linear_order(rows, k, p) {
-        true
-    } else {
-        covered_order(rows, k, p)
-    }
+    linear_order(rows, k, p) || covered_order(rows, k, p)
 }
 
 // What was found, and what two rows differ in: nothing, if nothing was found and the two are equal.
@@ -192,10 +188,7 @@ fn deciding(rows: &[u64; Case::MOST_THREADS * Case::MOST_EVENTS], n: usize, k: u
     ensures upper_bound { result ≤ n }
     ensures rows_value { may11 result k (order_in rows.now) (order_in rows.now) ≡ may11 n k (order_in rows.now) (order_in rows.now) }
 {
-    if n <= 1 {
-        return n;
-    }
-    if alike(rows, n, k) { 1 } else { n }
+    if n > 1 && alike(rows, n, k) { 1 } else { n }
 }
 
 // Rule 11 of a case's own orders: the test that judging uses.
@@ -213,14 +206,6 @@ pub fn rule11(rows: &[u64; Case::MOST_THREADS * Case::MOST_EVENTS], n: usize, k:
     true
 }
 
-// Thread q, or the last of n threads if there is no thread q.
-fn or_last(q: usize, n: usize) -> usize
-    requires { 1 ≤ n }
-    ensures { result ≡ min q (n - 1) }
-{
-    if q < n { q } else { n - 1 }
-}
-
 // What comes after event e in every thread's order. The last thread stands for those that are missing, so that the loop has a fixed
 // number of turns and the compiler leaves none of it.
 fn joined_row(rows: &[u64; Case::MOST_THREADS * Case::MOST_EVENTS], n: usize, e: usize) -> u64
@@ -231,7 +216,7 @@ fn joined_row(rows: &[u64; Case::MOST_THREADS * Case::MOST_EVENTS], n: usize, e:
 {
     let mut shared = rows::row(rows, 0, e);
     for q in 1..Case::MOST_THREADS {
-        shared = bits::both(shared, rows::row(rows, or_last(q, n), e));
+        shared = bits::both(shared, rows::row(rows, q.min(n - 1), e));
     }
     shared
 }

@@ -27,11 +27,8 @@ fn closed_row(
     ensures { result ≡ closed k (order_in known.now p) (order_in asked.now p) a }
 {
     let mine = rows::row(known, p, a);
-    if bits::has(mine, a) {
-        false
-    } else {
-        bits::inside_below(rows::after(known, k, p, mine), rows::row(asked, p, a), k)
-    }
+    !bits::has(mine, a)
+        && bits::inside_below(rows::after(known, k, p, mine), rows::row(asked, p, a), k)
 }
 
 // Thread p's order is irreflexive and transitive.
@@ -54,9 +51,9 @@ fn closed_order(
 }
 
 // Rule 11, a whole row at once. Judging has a test of one order, `one_order::rule11`.
-pub fn rule11<'a>(
-    known: &'a [u64; Case::MOST_THREADS * Case::MOST_EVENTS],
-    asked: &'a [u64; Case::MOST_THREADS * Case::MOST_EVENTS],
+pub fn rule11(
+    known: &[u64; Case::MOST_THREADS * Case::MOST_EVENTS],
+    asked: &[u64; Case::MOST_THREADS * Case::MOST_EVENTS],
     n: usize,
     k: usize,
 ) -> bool
@@ -87,11 +84,8 @@ fn three(
     requires d_lt_most_events { d < most_events }
     ensures { result ≡ transitive_at (order_in known.now p) (order_in asked.now p) a b d }
 {
-    if rows::precedes(known, p, a, b) && rows::precedes(known, p, b, d) {
-        rows::precedes(asked, p, a, d)
-    } else {
-        true
-    }
+    !(rows::precedes(known, p, a, b) && rows::precedes(known, p, b, d))
+        || rows::precedes(asked, p, a, d)
 }
 
 // Events a and b of thread p's order, with every third.
@@ -161,9 +155,9 @@ fn closed_order_by_threes(
 }
 
 // Rule 11 by every three events: the plain test beside the one that takes whole rows, with the same contract.
-pub fn rule11_by_threes<'a>(
-    known: &'a [u64; Case::MOST_THREADS * Case::MOST_EVENTS],
-    asked: &'a [u64; Case::MOST_THREADS * Case::MOST_EVENTS],
+pub fn rule11_by_threes(
+    known: &[u64; Case::MOST_THREADS * Case::MOST_EVENTS],
+    asked: &[u64; Case::MOST_THREADS * Case::MOST_EVENTS],
     n: usize,
     k: usize,
 ) -> bool
@@ -190,14 +184,11 @@ fn connected_event(
     requires k_le_most_events { k ≤ most_events }
     requires p_lt_most_threads { p < most_threads }
     requires a_lt_k { a < k }
+    requires a_value { bit own a ≡ true }
     ensures { result ≡ connected k (bit own) (order_in asked.now p) a }
 {
-    if bits::has(own, a) {
-        let around = rows::row(asked, p, a) | rows::before_of(asked, k, p, own, a);
-        bits::inside_below(own, bits::with(around, a), k)
-    } else {
-        true
-    }
+    let around = rows::row(asked, p, a) | rows::before_of(asked, k, p, own, a);
+    bits::inside_below(own, bits::with(around, a), k)
 }
 
 // Every two events of thread p are ordered.
@@ -220,9 +211,9 @@ fn connected_order(
 }
 
 // Rule 12. `own` holds each thread's events.
-pub fn rule12<'a>(
-    own: &'a [u64; Case::MOST_THREADS],
-    asked: &'a [u64; Case::MOST_THREADS * Case::MOST_EVENTS],
+pub fn rule12(
+    own: &[u64; Case::MOST_THREADS],
+    asked: &[u64; Case::MOST_THREADS * Case::MOST_EVENTS],
     n: usize,
     k: usize,
 ) -> bool
@@ -265,18 +256,12 @@ fn listed_event(
     requires k_le_most_events { k ≤ most_events }
     requires p_lt_most_threads { p < most_threads }
     requires a_lt_k { a < k }
+    requires a_value { bit own a ≡ true }
     ensures { result ≡ listed k (bit own) (bit barriers) (set_in partners.now) (set_in dependents.now) (order_in asked.now p) a }
 {
-    if bits::has(own, a) {
-        let placed = rows::row(asked, p, a) | bits::below(a + 1);
-        bits::inside_below(
-            bound_to(own, barriers, partners[a], dependents[a], a),
-            placed,
-            k,
-        )
-    } else {
-        true
-    }
+    let placed = rows::row(asked, p, a) | bits::below(a + 1);
+    let bound = bound_to(own, barriers, partners[a], dependents[a], a);
+    bits::inside_below(bound, placed, k)
 }
 
 // Thread p's order keeps its program order.
@@ -293,24 +278,21 @@ fn listed_order(
     requires p_lt_most_threads { p < most_threads }
     ensures { result ≡ all k (listed k (bit own) (bit barriers) (set_in partners.now) (set_in dependents.now) (order_in asked.now p)) }
 {
-    let mut rest = bits::both(own, bits::below(k));
-    while rest != 0 {
-        let a = rows::lowest(rest);
+    for a in bits::members_below(own, k) {
         if !listed_event(own, barriers, partners, dependents, asked, k, p, a) {
             return false;
         }
-        rest = rows::but_lowest(rest);
     }
     true
 }
 
 // Rule 13. `partners` holds, by event, the events that use its address, `dependents` those that depend on it.
-pub fn rule13<'a>(
-    own: &'a [u64; Case::MOST_THREADS],
+pub fn rule13(
+    own: &[u64; Case::MOST_THREADS],
     barriers: u64,
-    partners: &'a [u64; Case::MOST_EVENTS],
-    dependents: &'a [u64; Case::MOST_EVENTS],
-    asked: &'a [u64; Case::MOST_THREADS * Case::MOST_EVENTS],
+    partners: &[u64; Case::MOST_EVENTS],
+    dependents: &[u64; Case::MOST_EVENTS],
+    asked: &[u64; Case::MOST_THREADS * Case::MOST_EVENTS],
     n: usize,
     k: usize,
 ) -> bool
@@ -342,7 +324,7 @@ fn in_write_order(
     ensures { result ≡ all k (λ b. bit set b ⇒ first a b (writes_in writes.now x count)) }
 {
     for i in 0..count {
-        let e = writes[x * Case::MOST_EVENTS + i] as usize;
+        let e = usize::from(writes[x * Case::MOST_EVENTS + i]);
         if e == a {
             return true;
         }
@@ -367,33 +349,24 @@ fn coherent_event(
     requires n_le_most_threads { n ≤ most_threads }
     requires k_le_most_events { k ≤ most_events }
     requires a_lt_k { a < k }
-    requires a_bound { bit stores a ≡ true → get_or addresses.now a 0 < most_addresses }
-    requires i_bound { bit stores a ≡ true → (i : ℕ) → i < count k (store_in stores partners.now a) → get_or writes.now (get_or addresses.now a 0 * most_events + i) 0 < k }
+    requires a_value { bit stores a ≡ true }
+    requires a_bound { get_or addresses.now a 0 < most_addresses }
+    requires i_bound { (i : ℕ) → i < count k (store_in stores partners.now a) → get_or writes.now (get_or addresses.now a 0 * most_events + i) 0 < k }
     ensures { result ≡ coherent k n (bit stores) (store_in stores partners.now) (written_in k stores partners.now addresses.now writes.now) (order_in known.now) a }
 {
-    if bits::has(stores, a) {
-        let sources = bits::both(stores, partners[a]);
-        let later = bits::both(sources, rows::after_anywhere(known, n, a));
-        in_write_order(
-            writes,
-            addresses[a] as usize,
-            bits::size_below(sources, k),
-            k,
-            later,
-            a,
-        )
-    } else {
-        true
-    }
+    let sources = bits::both(stores, partners[a]);
+    let later = bits::both(sources, rows::after_anywhere(known, n, a));
+    let count = bits::size_below(sources, k);
+    in_write_order(writes, usize::from(addresses[a]), count, k, later, a)
 }
 
 // Rule 14. `addresses` and `writes` are a case's.
-pub fn rule14<'a>(
-    known: &'a [u64; Case::MOST_THREADS * Case::MOST_EVENTS],
+pub fn rule14(
+    known: &[u64; Case::MOST_THREADS * Case::MOST_EVENTS],
     stores: u64,
-    partners: &'a [u64; Case::MOST_EVENTS],
-    addresses: &'a [u8; Case::MOST_EVENTS],
-    writes: &'a [u8; Case::MOST_ADDRESSES * Case::MOST_EVENTS],
+    partners: &[u64; Case::MOST_EVENTS],
+    addresses: &[u8; Case::MOST_EVENTS],
+    writes: &[u8; Case::MOST_ADDRESSES * Case::MOST_EVENTS],
     n: usize,
     k: usize,
 ) -> bool
@@ -403,7 +376,7 @@ pub fn rule14<'a>(
     requires by_index_2 { (a : ℕ) → a < k → bit stores a ≡ true → (i : ℕ) → i < count k (store_in stores partners.now a) → get_or writes.now (get_or addresses.now a 0 * most_events + i) 0 < k }
     ensures { result ≡ may14 n k (bit stores) (store_in stores partners.now) (written_in k stores partners.now addresses.now writes.now) (order_in known.now) }
 {
-    for a in 0..k {
+    for a in bits::members_below(stores, k) {
         if !coherent_event(known, stores, partners, addresses, writes, n, k, a) {
             return false;
         }

@@ -15,14 +15,6 @@ pub returns-then-not-as_first : goal.returns-then-not-as_first
 returns-then-not-as_first c =
     loop_fails c.args.n (as_first c.args.k c.args.rows.now) c.loop-p.p c.loop-p-test.true c.as_first.ensures (ap not c.if-not-as_first.true)
 
-pub overflow_step-p : goal.overflow_step-p
-overflow_step-p c =
-    omega arith
-
-pub loop-p-smaller : goal.loop-p-smaller
-loop-p-smaller c =
-    omega arith
-
 pub loop-p-preserved : goal.loop-p-preserved
 loop-p-preserved c =
     next-alike c.args.k c.args.rows.now c.loop-p.p c.loop-p.invariant c.as_first.ensures (ap not c.if-not-as_first.false)

@@ -8,6 +8,3 @@ use Rattle.one_order.proofs.alike.Given as goal
 
 abbrev pub invariant-loop-p : goal.invariant-loop-p
 invariant-loop-p l = all l.p (as_first l.k l.rows) ≡ true
-
-abbrev pub decreases-loop-p : goal.decreases-loop-p
-decreases-loop-p l = l.n - l.p

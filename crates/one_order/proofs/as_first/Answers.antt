@@ -7,14 +7,6 @@ pub loop-a-init : goal.loop-a-init
 loop-a-init c =
     compare_none c.args.k c.args.rows.now c.args.p
 
-pub overflow_step-a : goal.overflow_step-a
-overflow_step-a c =
-    omega arith
-
-pub loop-a-smaller : goal.loop-a-smaller
-loop-a-smaller c =
-    omega arith
-
 pub loop-a-preserved : goal.loop-a-preserved
 loop-a-preserved c =
     compare_next c.loop-a.invariant c.loop-a-test.true c.row.ensures c.row-in-loop-a.ensures c.differing-found.ensures

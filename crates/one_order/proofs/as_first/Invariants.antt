@@ -5,6 +5,3 @@ use Rattle.one_order.proofs.as_first.Given as goal
 
 abbrev pub invariant-loop-a : goal.invariant-loop-a
 invariant-loop-a l = Compared l.k l.rows l.p l.a l.found
-
-abbrev pub decreases-loop-a : goal.decreases-loop-a
-decreases-loop-a l = l.k - l.a

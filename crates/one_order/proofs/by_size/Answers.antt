@@ -12,14 +12,6 @@ pub bounds-out-size : goal.bounds-out-size
 bounds-out-size c =
     size_fits c.args.k c.row.result (search rules) c.size_below-size.ensures
 
-pub overflow_step-a : goal.overflow_step-a
-overflow_step-a c =
-    omega arith
-
-pub loop-a-smaller : goal.loop-a-smaller
-loop-a-smaller c =
-    omega arith
-
 pub loop-a-preserved : goal.loop-a-preserved
 loop-a-preserved c =
     names c.loop-a.invariant c.loop-a-test.true (search rules) (size_fits c.args.k c.row.result (search rules) c.size_below-size.ensures)

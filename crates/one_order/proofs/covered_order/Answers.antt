@@ -11,14 +11,6 @@ pub returns-then-not-covered_row : goal.returns-then-not-covered_row
 returns-then-not-covered_row c =
     search rows_fail
 
-pub overflow_step-a : goal.overflow_step-a
-overflow_step-a c =
-    omega arith
-
-pub loop-a-smaller : goal.loop-a-smaller
-loop-a-smaller c =
-    omega arith
-
 pub loop-a-preserved : goal.loop-a-preserved
 loop-a-preserved c =
     search rows_next

@@ -6,6 +6,3 @@ use Rattle.one_order.proofs.covered_order.Given as goal
 
 abbrev pub invariant-loop-a : goal.invariant-loop-a
 invariant-loop-a l = CoveredTo l.k (order_in l.rows l.p) l.a
-
-abbrev pub decreases-loop-a : goal.decreases-loop-a
-decreases-loop-a l = l.k - l.a

@@ -37,14 +37,6 @@ pub with-part-requires : goal.with-part-requires
 with-part-requires c =
     c.requires.named.event c.loop-i.i (omega (arith, c.loop-i-test.true, c.requires.k_le_most_events))
 
-pub overflow_step-i : goal.overflow_step-i
-overflow_step-i c =
-    omega arith
-
-pub loop-i-smaller : goal.loop-i-smaller
-loop-i-smaller c =
-    omega arith
-
 pub loop-i-preserved : goal.loop-i-preserved
 loop-i-preserved c =
     let a = get_or c.args.sizes.now c.loop-i.i 0 in

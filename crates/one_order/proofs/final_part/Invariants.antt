@@ -6,6 +6,3 @@ use Rattle.one_order.proofs.final_part.Given as goal
 
 abbrev pub invariant-loop-i : goal.invariant-loop-i
 invariant-loop-i l = FinalPart l.k (order_in l.rows l.p) l.part
-
-abbrev pub decreases-loop-i : goal.decreases-loop-i
-decreases-loop-i l = l.k - l.i

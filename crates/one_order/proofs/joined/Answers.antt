@@ -8,14 +8,6 @@ pub loop-e-init : goal.loop-e-init
 loop-e-init c =
     unfilled (search rules)
 
-pub overflow_step-e : goal.overflow_step-e
-overflow_step-e c =
-    omega arith
-
-pub loop-e-smaller : goal.loop-e-smaller
-loop-e-smaller c =
-    omega arith
-
 pub loop-e-preserved : goal.loop-e-preserved
 loop-e-preserved c =
     fills c.loop-e.invariant c.loop-e-test.true c.joined_row.ensures

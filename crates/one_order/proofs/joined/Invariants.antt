@@ -7,6 +7,3 @@ use Rattle.one_order.proofs.joined.Given as goal
 
 abbrev pub invariant-loop-e : goal.invariant-loop-e
 invariant-loop-e l = Filled l.k (λ e g. all l.n (λ q. order_in l.rows q e g)) l.e l.out
-
-abbrev pub decreases-loop-e : goal.decreases-loop-e
-decreases-loop-e l = l.k - l.e

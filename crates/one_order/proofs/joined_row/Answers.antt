@@ -17,14 +17,6 @@ pub row-requires-clause-p_lt_most_threads : goal.row-requires-clause-p_lt_most_t
 row-requires-clause-p_lt_most_threads c =
     omega (arith, c.or_last.ensures, c.requires.le_n, c.requires.n_le_most_threads)
 
-pub overflow_step-q : goal.overflow_step-q
-overflow_step-q c =
-    omega arith
-
-pub loop-q-smaller : goal.loop-q-smaller
-loop-q-smaller c =
-    omega arith
-
 pub loop-q-preserved : goal.loop-q-preserved
 loop-q-preserved c =
     join_next c.loop-q.invariant c.loop-q-test.true

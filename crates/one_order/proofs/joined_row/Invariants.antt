@@ -7,6 +7,3 @@ use Rattle.one_order.proofs.joined_row.Given as goal
 
 abbrev pub invariant-loop-q : goal.invariant-loop-q
 invariant-loop-q l = Joined most_threads (λ q g. order_in l.rows (min q (l.n - 1)) l.e g) l.q l.shared
-
-abbrev pub decreases-loop-q : goal.decreases-loop-q
-decreases-loop-q l = most_threads - l.q

@@ -8,6 +8,3 @@ use Rattle.one_order.proofs.rule11.Given as goal
 
 abbrev pub invariant-loop-p : goal.invariant-loop-p
 invariant-loop-p l = Passed l.few (λ p. all l.k (closed l.k (order_in l.rows p) (order_in l.rows p))) l.p
-
-abbrev pub decreases-loop-p : goal.decreases-loop-p
-decreases-loop-p l = l.few - l.p

@@ -21,14 +21,6 @@ returns-then-not-closed_pair_by_threes c =
     fails c.loop-b.invariant c.loop-b-test.true c.closed_pair_by_threes.ensures (ap not c.if-not-closed_pair_by_threes.true)
     ∙ closed_threes c.args.k (order_in c.args.known.now c.args.p) (order_in c.args.asked.now c.args.p) c.args.a (sym c.precedes.ensures ∙ c.if-precedes.false)
 
-pub overflow_step-b : goal.overflow_step-b
-overflow_step-b c =
-    omega arith
-
-pub loop-b-smaller : goal.loop-b-smaller
-loop-b-smaller c =
-    omega arith
-
 pub loop-b-preserved : goal.loop-b-preserved
 loop-b-preserved c =
     search passes

@@ -8,6 +8,3 @@ use Rattle.orders.proofs.closed_by_threes.Given as goal
 
 abbrev pub invariant-loop-b : goal.invariant-loop-b
 invariant-loop-b l = Passed l.k (λ b. all l.k (transitive_at (order_in l.known l.p) (order_in l.asked l.p) l.a b)) l.b
-
-abbrev pub decreases-loop-b : goal.decreases-loop-b
-decreases-loop-b l = l.k - l.b

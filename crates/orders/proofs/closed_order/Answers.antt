@@ -11,14 +11,6 @@ pub returns-then-not-closed_row : goal.returns-then-not-closed_row
 returns-then-not-closed_row c =
     search fails
 
-pub overflow_step-a : goal.overflow_step-a
-overflow_step-a c =
-    omega arith
-
-pub loop-a-smaller : goal.loop-a-smaller
-loop-a-smaller c =
-    omega arith
-
 pub loop-a-preserved : goal.loop-a-preserved
 loop-a-preserved c =
     search passes

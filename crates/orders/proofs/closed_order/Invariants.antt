@@ -7,6 +7,3 @@ use Rattle.orders.proofs.closed_order.Given as goal
 
 abbrev pub invariant-loop-a : goal.invariant-loop-a
 invariant-loop-a l = Passed l.k (closed l.k (order_in l.known l.p) (order_in l.asked l.p)) l.a
-
-abbrev pub decreases-loop-a : goal.decreases-loop-a
-decreases-loop-a l = l.k - l.a

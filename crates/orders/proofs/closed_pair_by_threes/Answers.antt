@@ -11,14 +11,6 @@ pub returns-then-not-three : goal.returns-then-not-three
 returns-then-not-three c =
     search fails
 
-pub overflow_step-d : goal.overflow_step-d
-overflow_step-d c =
-    omega arith
-
-pub loop-d-smaller : goal.loop-d-smaller
-loop-d-smaller c =
-    omega arith
-
 pub loop-d-preserved : goal.loop-d-preserved
 loop-d-preserved c =
     search passes

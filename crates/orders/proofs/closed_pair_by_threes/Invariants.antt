@@ -7,6 +7,3 @@ use Rattle.orders.proofs.closed_pair_by_threes.Given as goal
 
 abbrev pub invariant-loop-d : goal.invariant-loop-d
 invariant-loop-d l = Passed l.k (transitive_at (order_in l.known l.p) (order_in l.asked l.p) l.a l.b) l.d
-
-abbrev pub decreases-loop-d : goal.decreases-loop-d
-decreases-loop-d l = l.k - l.d

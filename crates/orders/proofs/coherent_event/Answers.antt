@@ -1,67 +1,48 @@
 -- `orders::coherent_event` meets its contract. Assumes nothing.
-use Prim.Native.Nat.{ℕ, ◌<◌, ◌≤◌}
-use borrow.Author.Rules.{rules}
+use Prim.Native.Nat.{ℕ, ◌+◌, ◌*◌, ◌<◌, ◌≤◌}
 use native.Mathlib.Omega.{arith}
-use mathlib.Core.Path.{◌≡◌, refl, sym, ap, ◌∙◌, subst}
-use mathlib.Core.Bool.{◌&&◌}
+use mathlib.Core.Path.{◌≡◌, refl, sym, ap₂, ap, ◌∙◌, subst}
+use mathlib.Core.Bool.{Bool, ◌&&◌}
 use lib.ListN.{get_or}
 use Rattle.finite.specs.Tests.{all, some, count, ◌⇒◌}
-use Rattle.rows.specs.Sets.{order_in, store_in}
+use Rattle.finite.proofs.Tests.{all_same, count-le}
 use Rattle.bits.specs.Bit.{bit}
+use Rattle.model.specs.Limits.{most_events}
 use Rattle.model.specs.Rules.{first}
+use Rattle.rows.specs.Sets.{order_in, store_in}
+use Rattle.rows.proofs.SetLaws.{as_set, set_as, share, imp_yes}
 use Rattle.orders.specs.Parts.{writes_in, written_in}
-use Rattle.finite.proofs.Tests.{count-le}
 use Rattle.orders.proofs.Laws.{count_set}
-use Rattle.rows.proofs.SetLaws.{as_set, set_as, share, imp_yes, imp-not}
-use Rattle.model.specs.Limits.{most_addresses}
-use Rattle.finite.proofs.Tests.{all_same}
 use Rattle.orders.proofs.coherent_event.Goals as goal
-
-pub overflow_cast-addresses : goal.overflow_cast-addresses
-overflow_cast-addresses c =
-    let x : get_or c.args.addresses.now c.args.a 0 < most_addresses = c.requires.a_bound (sym c.has.ensures ∙ c.if-has.true) in
-    omega arith
-
-pub in_write_order-requires-clause-k_le_most_events : goal.in_write_order-requires-clause-k_le_most_events
-in_write_order-requires-clause-k_le_most_events c =
-    let store = sym c.has.ensures ∙ c.if-has.true in
-    let m : c.size_below.result ≡ count c.args.k (store_in c.args.stores c.args.partners.now c.args.a)
-    = count_set c.args.k (set_as c.both-sources.ensures (share (as_set refl) (as_set refl))) c.size_below.ensures in
-    search rules
 
 pub in_write_order-requires-clause-x_lt_most_addresses : goal.in_write_order-requires-clause-x_lt_most_addresses
 in_write_order-requires-clause-x_lt_most_addresses c =
-    let store = sym c.has.ensures ∙ c.if-has.true in
-    let m : c.size_below.result ≡ count c.args.k (store_in c.args.stores c.args.partners.now c.args.a)
-    = count_set c.args.k (set_as c.both-sources.ensures (share (as_set refl) (as_set refl))) c.size_below.ensures in
-    c.requires.a_bound store
+    omega (arith, c.from.ensures, c.requires.a_bound)
 
 pub in_write_order-requires-clause-count_le_k : goal.in_write_order-requires-clause-count_le_k
 in_write_order-requires-clause-count_le_k c =
-    let store = sym c.has.ensures ∙ c.if-has.true in
-    let m : c.size_below.result ≡ count c.args.k (store_in c.args.stores c.args.partners.now c.args.a)
-    = count_set c.args.k (set_as c.both-sources.ensures (share (as_set refl) (as_set refl))) c.size_below.ensures in
-    subst (λ (i : ℕ). i ≤ c.args.k) (sym m) (count-le c.args.k (store_in c.args.stores c.args.partners.now c.args.a))
+    let long : c.size_below-count.result ≡ count c.args.k (store_in c.args.stores c.args.partners.now c.args.a)
+    = count_set c.args.k (set_as c.both-sources.ensures (share (as_set refl) (as_set refl))) c.size_below-count.ensures in
+    subst (λ (i : ℕ). i ≤ c.args.k) (sym long) (count-le c.args.k (store_in c.args.stores c.args.partners.now c.args.a))
 
 pub in_write_order-requires-clause-by_index : goal.in_write_order-requires-clause-by_index
 in_write_order-requires-clause-by_index c =
-    let store = sym c.has.ensures ∙ c.if-has.true in
-    let m : c.size_below.result ≡ count c.args.k (store_in c.args.stores c.args.partners.now c.args.a)
-    = count_set c.args.k (set_as c.both-sources.ensures (share (as_set refl) (as_set refl))) c.size_below.ensures in
-    λ i l. c.requires.i_bound store i (subst (λ (j : ℕ). i < j) m l)
+    let long : c.size_below-count.result ≡ count c.args.k (store_in c.args.stores c.args.partners.now c.args.a)
+    = count_set c.args.k (set_as c.both-sources.ensures (share (as_set refl) (as_set refl))) c.size_below-count.ensures in
+    λ i l.
+    subst (λ (x : ℕ). get_or c.args.writes.now (x * most_events + i) 0 < c.args.k) (sym c.from.ensures)
+    (c.requires.i_bound i (subst (λ (j : ℕ). i < j) long l))
 
-pub returns-then-has : goal.returns-then-has
-returns-then-has c =
-    let store = sym c.has.ensures ∙ c.if-has.true in
+pub returns : goal.returns
+returns c =
+    let s = c.args in
+    let address = get_or s.addresses.now s.a 0 in
     let sources = set_as c.both-sources.ensures (share (as_set refl) (as_set refl)) in
-    let m : c.size_below.result ≡ count c.args.k (store_in c.args.stores c.args.partners.now c.args.a)
-    = count_set c.args.k sources c.size_below.ensures in
+    let later : ℕ → Bool = λ b. store_in s.stores s.partners.now s.a b && some s.n (λ p. order_in s.known.now p s.a b) in
+    let written = written_in s.k s.stores s.partners.now s.addresses.now s.writes.now s.a in
+    let long : c.size_below-count.result ≡ count c.args.k (store_in c.args.stores c.args.partners.now c.args.a)
+    = count_set c.args.k (set_as c.both-sources.ensures (share (as_set refl) (as_set refl))) c.size_below-count.ensures in
     c.in_write_order.ensures
-    ∙ ap (λ (i : ℕ). all c.args.k (λ b. bit c.both-later.result b ⇒ first c.args.a b (writes_in c.args.writes.now (get_or c.args.addresses.now c.args.a 0) i))) m
-    ∙ all_same c.args.k _ _ (λ b l. ap (λ t. t ⇒ written_in c.args.k c.args.stores c.args.partners.now c.args.addresses.now c.args.writes.now c.args.a b)
-    ((set_as c.both-later.ensures (share sources c.after_anywhere.ensures)).has b))
-    ∙ imp_yes (bit c.args.stores c.args.a) (all c.args.k (λ b. (store_in c.args.stores c.args.partners.now c.args.a b && some c.args.n (λ p. order_in c.args.known.now p c.args.a b)) ⇒ written_in c.args.k c.args.stores c.args.partners.now c.args.addresses.now c.args.writes.now c.args.a b)) store
-
-pub returns-else-has : goal.returns-else-has
-returns-else-has c =
-    imp-not (bit c.args.stores c.args.a) (all c.args.k (λ b. (store_in c.args.stores c.args.partners.now c.args.a b && some c.args.n (λ p. order_in c.args.known.now p c.args.a b)) ⇒ written_in c.args.k c.args.stores c.args.partners.now c.args.addresses.now c.args.writes.now c.args.a b)) (sym c.has.ensures ∙ c.if-has.false)
+    ∙ ap₂ (λ (x i : ℕ). all s.k (λ b. bit c.both-later.result b ⇒ first s.a b (writes_in s.writes.now x i))) c.from.ensures long
+    ∙ all_same s.k _ _ (λ b l. ap (λ t. t ⇒ written b) ((set_as c.both-later.ensures (share sources c.after_anywhere.ensures)).has b))
+    ∙ imp_yes (bit s.stores s.a) (all s.k (λ b. later b ⇒ written b)) c.requires.a_value

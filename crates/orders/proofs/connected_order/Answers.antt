@@ -1,5 +1,5 @@
 -- `orders::connected_order` meets its contract. Assumes nothing.
-use Rattle.rows.proofs.Each.{pass_first, event_below, pass_next, pass_fails, pass_end}
+use Rattle.rows.proofs.Each.{pass_first, event_below, event_of, pass_next, pass_fails, pass_end}
 use Rattle.finite.proofs.Tests.{imp_no}
 use Rattle.orders.proofs.connected_order.Goals as goal
 
@@ -10,6 +10,10 @@ loop-a-init c =
 pub connected_event-requires-clause-a_lt_k : goal.connected_event-requires-clause-a_lt_k
 connected_event-requires-clause-a_lt_k c =
     event_below c.loop-a.invariant.within c.in-Some.ensures.steps
+
+pub connected_event-requires-clause-a_value : goal.connected_event-requires-clause-a_value
+connected_event-requires-clause-a_value c =
+    event_of c.loop-a.invariant.within c.in-Some.ensures.steps
 
 pub returns-then-not-connected_event : goal.returns-then-not-connected_event
 returns-then-not-connected_event c =

@@ -7,6 +7,3 @@ use Rattle.orders.proofs.in_write_order.Given as goal
 
 abbrev pub invariant-loop-i : goal.invariant-loop-i
 invariant-loop-i l = Walked l.k l.set l.a l.count (λ j. get_or l.writes (l.x * most_events + j) 0) l.i
-
-abbrev pub decreases-loop-i : goal.decreases-loop-i
-decreases-loop-i l = l.count - l.i

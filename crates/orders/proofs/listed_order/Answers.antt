@@ -1,47 +1,28 @@
 -- `orders::listed_order` meets its contract. Assumes nothing.
-use borrow.Author.Rules.{rules}
-use Rattle.rows.proofs.Visits.{visit_all, visit_in, visit_fails, visit_next, visit_ends, lowest_less}
-use Rattle.rows.proofs.SetLaws.{masked}
+use Rattle.rows.proofs.Each.{pass_first, event_below, event_of, pass_next, pass_fails, pass_end}
 use Rattle.finite.proofs.Tests.{imp_no}
-use mathlib.Core.Path.{ap}
-use mathlib.Core.Bool.{not}
 use Rattle.orders.proofs.listed_order.Goals as goal
 
-pub loop-rest-init : goal.loop-rest-init
-loop-rest-init c =
-    visit_all c.both-rest.type_inv (masked c.args.k c.args.own c.both-rest.ensures c.below.ensures) (λ i h. imp_no _ _ (h))
-
-pub listed_event-requires-clause-k_le_most_events : goal.listed_event-requires-clause-k_le_most_events
-listed_event-requires-clause-k_le_most_events c =
-    let b = visit_in c.loop-rest.invariant c.loop-rest-test.true c.lowest-a.ensures in
-    search rules
-
-pub listed_event-requires-clause-p_lt_most_threads : goal.listed_event-requires-clause-p_lt_most_threads
-listed_event-requires-clause-p_lt_most_threads c =
-    let b = visit_in c.loop-rest.invariant c.loop-rest-test.true c.lowest-a.ensures in
-    search rules
+pub loop-a-init : goal.loop-a-init
+loop-a-init c =
+    pass_first c.into_iter-a-iterator.ensures.into_iter_gives c.members_below-a-items.ensures (λ i h. imp_no _ _ h)
 
 pub listed_event-requires-clause-a_lt_k : goal.listed_event-requires-clause-a_lt_k
 listed_event-requires-clause-a_lt_k c =
-    let b = visit_in c.loop-rest.invariant c.loop-rest-test.true c.lowest-a.ensures in
-    search rules
+    event_below c.loop-a.invariant.within c.in-Some.ensures.steps
+
+pub listed_event-requires-clause-a_value : goal.listed_event-requires-clause-a_value
+listed_event-requires-clause-a_value c =
+    event_of c.loop-a.invariant.within c.in-Some.ensures.steps
 
 pub returns-then-not-listed_event : goal.returns-then-not-listed_event
 returns-then-not-listed_event c =
-    visit_fails c.loop-rest.invariant c.loop-rest-test.true c.lowest-a.ensures c.listed_event.ensures (ap not c.if-not-listed_event.true)
+    pass_fails c.loop-a.invariant c.in-Some.ensures.steps c.listed_event.ensures c.if-not-listed_event.true
 
-pub but_lowest-rest-requires : goal.but_lowest-rest-requires
-but_lowest-rest-requires c =
-    c.loop-rest-test.true
-
-pub loop-rest-smaller : goal.loop-rest-smaller
-loop-rest-smaller c =
-    lowest_less c.loop-rest-test.true c.but_lowest-rest.ensures
-
-pub loop-rest-preserved : goal.loop-rest-preserved
-loop-rest-preserved c =
-    visit_next c.loop-rest.invariant c.loop-rest-test.true c.lowest-a.ensures c.listed_event.ensures (ap not c.if-not-listed_event.false) c.but_lowest-rest.ensures
+pub loop-a-preserved : goal.loop-a-preserved
+loop-a-preserved c =
+    pass_next c.loop-a.invariant c.in-Some.ensures.steps c.listed_event.ensures c.if-not-listed_event.false
 
 pub returns : goal.returns
 returns c =
-    visit_ends c.loop-rest.invariant c.loop-rest-test.false
+    pass_end c.loop-a.invariant c.in-None.ensures.steps

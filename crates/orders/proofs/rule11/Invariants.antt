@@ -8,6 +8,3 @@ use Rattle.orders.proofs.rule11.Given as goal
 
 abbrev pub invariant-loop-p : goal.invariant-loop-p
 invariant-loop-p l = Passed l.n (λ p. all l.k (closed l.k (order_in l.known p) (order_in l.asked p))) l.p
-
-abbrev pub decreases-loop-p : goal.decreases-loop-p
-decreases-loop-p l = l.n - l.p

@@ -8,6 +8,3 @@ use Rattle.orders.proofs.rule12.Given as goal
 
 abbrev pub invariant-loop-p : goal.invariant-loop-p
 invariant-loop-p l = Passed l.n (λ p. all l.k (connected l.k (set_in l.own p) (order_in l.asked p))) l.p
-
-abbrev pub decreases-loop-p : goal.decreases-loop-p
-decreases-loop-p l = l.n - l.p

@@ -15,14 +15,6 @@ pub returns-then-not-listed_order : goal.returns-then-not-listed_order
 returns-then-not-listed_order c =
     fails c.loop-p.invariant c.loop-p-test.true c.listed_order.ensures (ap not c.if-not-listed_order.true) ∙ by_listing _ _ _ _ _ _ _
 
-pub overflow_step-p : goal.overflow_step-p
-overflow_step-p c =
-    omega arith
-
-pub loop-p-smaller : goal.loop-p-smaller
-loop-p-smaller c =
-    omega arith
-
 pub loop-p-preserved : goal.loop-p-preserved
 loop-p-preserved c =
     search passes

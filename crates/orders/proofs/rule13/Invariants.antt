@@ -9,6 +9,3 @@ use Rattle.orders.proofs.rule13.Given as goal
 
 abbrev pub invariant-loop-p : goal.invariant-loop-p
 invariant-loop-p l = Passed l.n (λ p. all l.k (listed l.k (set_in l.own p) (bit l.barriers) (set_in l.partners) (set_in l.dependents) (order_in l.asked p))) l.p
-
-abbrev pub decreases-loop-p : goal.decreases-loop-p
-decreases-loop-p l = l.n - l.p
