@@ -7,17 +7,16 @@ use mathlib.Core.Path.{◌≡◌, refl, sym, ap, ap₂, ◌∙◌, subst}
 use mathlib.Core.Bool.{Bool, true, false, not, ◌&&◌, ◌||◌, true≢false}
 use mathlib.Core.List.{List}
 use lib.Bits.{bit_and}
-use lib.Count.{count_trailing_zeros}
 use lib.Dec.{eqb, ltb}
 use borrow.Author.Tests.{eqb-true, eq-eqb, ltb-true, lt-ltb, not-true, not-false}
 use Rattle.finite.specs.Tests.{all, count, ◌⇒◌}
 use Rattle.finite.proofs.Tests.{and_l, and_r, and_i, or_l, or_r, or_e, imp_e, imp_i, is_false, all_get, all_make, all_same, all-not, count_less}
 use Rattle.bits.specs.Bit.{bit, width}
+use Rattle.bits.specs.Members.{Taken}
 use Rattle.bits.proofs.Bits.{bit-zero}
 use Rattle.model.specs.Limits.{most_events}
 use Rattle.rows.specs.Sets.{Set, row_in, order_in}
 use Rattle.rows.proofs.SetLaws.{set_same, set_below, masked}
-use Rattle.rows.proofs.Visits.{lowest_in, lowest_out}
 use Rattle.orders.specs.Parts.{closed}
 use Rattle.orders.proofs.Laws.{closed_no}
 use Rattle.one_order.specs.Covers.{Cover, Covered, Tested}
@@ -80,7 +79,6 @@ not-closed k before a b lb ab f = is_false (λ t.
 -- ---- a loop over a's row in thread p's order: what is not left is covered. others: the events that do not follow a
 pub record Covering (rows : List ℕ) (k p a mine others rest : ℕ) : Type 0 where
   pub small : k ≤ most_events
-  pub fit : rest < 2 ^ width
   pub row : mine ≡ row_in rows p a
   pub outside : Set others (λ e. ltb e k && not (bit mine e))
   pub irreflexive : order_in rows p a a ≡ false
@@ -93,14 +91,13 @@ cover_no rows k p a row e t =
     tested_no k (order_in rows p) a (sym (closed_no k (order_in rows p) (order_in rows p) a (ap (λ (y : ℕ). bit y a) (sym row) ∙ sym e ∙ t)))
 
 module _ {rows : List ℕ} {k p a mine : ℕ} where
-  pub cover-none : {x : Bool} {events others rest : ℕ} → k ≤ most_events → mine ≡ row_in rows p a → x ≡ bit mine a → x ≡ false → events ≡ 2 ^ k - 1
-      → Set others (λ e. bit events e && not (bit mine e)) → rest ≡ bit_and mine events → rest < 2 ^ width → Covering rows k p a mine others rest
-  cover-none {events = events} {others} {rest} m row ex f ee o er fit =
-      let s : Set rest (λ e. bit mine e && ltb e k) = masked k mine er ee in
+  pub cover-none : {x : Bool} {events others left rest : ℕ} → k ≤ most_events → mine ≡ row_in rows p a → x ≡ bit mine a → x ≡ false → events ≡ 2 ^ k - 1
+      → Set others (λ e. bit events e && not (bit mine e)) → left ≡ bit_and mine events → rest ≡ left → Covering rows k p a mine others rest
+  cover-none {events = events} {others} {rest = rest} m row ex f ee o er same_rest =
+      let s : Set rest (λ e. bit mine e && ltb e k) = masked k mine (same_rest ∙ er) ee in
       let same : (e : ℕ) → bit mine e ≡ order_in rows p a e = λ e. ap (λ (x : ℕ). bit x e) row in
       record {
         small = m;
-        fit = fit;
         row = row;
         outside = set_same o (λ e. ap (λ t. t && not (bit mine e)) ((set_below k ee).has e));
         irreflexive = sym (same a) ∙ sym ex ∙ f;
@@ -109,19 +106,16 @@ module _ {rows : List ℕ} {k p a mine : ℕ} where
       }
 
   module _ {others rest : ℕ} (v : Covering rows k p a mine others rest) where
-    pub cover_all : rest ≡ 0 → Tested k (order_in rows p) a true
+    pub cover_all : ((e : ℕ) → bit rest e ≡ false) → Tested k (order_in rows p) a true
     cover_all z = record {
-      holds = λ _. record { irreflexive = v.irreflexive; cover = λ d l t. v.cover d l t (ap (λ (x : ℕ). bit x d) z ∙ bit-zero d) };
+      holds = λ _. record { irreflexive = v.irreflexive; cover = λ d l t. v.cover d l t (z d) };
       fails = λ e. absurd (true≢false e);
     }
 
-    -- the lowest event i of the rest
-    module _ {i : ℕ} (some' : (rest ≡ 0 → ⊥)) (low : i ≡ count_trailing_zeros width rest) where
-      here : bit rest i ≡ true
-      here = ap (bit rest) low ∙ lowest_in width rest v.fit some'
-
+    -- the least event i of the rest, without which later is left
+    module _ {i later : ℕ} (taken : Taken rest i later) where
       pub cover_in : i < k
-      cover_in = (v.within i here).0
+      cover_in = (v.within i taken.member).0
 
       -- its row behind, and whether it lies within a's
       module _ {behind : ℕ} {x : Bool} (er : behind ≡ row_in rows p i) (ex : x ≡ all width (λ j. bit behind j ⇒ not (bit others j))) where
@@ -130,16 +124,16 @@ module _ {rows : List ℕ} {k p a mine : ℕ} where
             apart_others k v.small behind mine v.outside ex
             ∙ all_same k (λ j. bit behind j ⇒ bit mine j) (λ d. order_in rows p i d ⇒ order_in rows p a d) (λ j l. ap₂ (λ (y z : ℕ). bit y j ⇒ bit z j) er v.row)
 
-        pub cover-fails : not x ≡ true → Tested k (order_in rows p) a false
-        cover-fails t = tested_no k (order_in rows p) a (not-closed k (order_in rows p) a i cover_in (v.within i here).1 (sym tests ∙ not-true x t))
+        pub cover-fails : x ≡ false → Tested k (order_in rows p) a false
+        cover-fails t = tested_no k (order_in rows p) a (not-closed k (order_in rows p) a i cover_in (v.within i taken.member).1 (sym tests ∙ t))
 
         -- i and its row are left out
-        module _ {later left : ℕ} (el : later ≡ bit_and rest (rest - 1)) (s : Set left (λ e. bit later e && not (bit behind e))) where
-          dropped : (j : ℕ) → bit later j ≡ (bit rest j && not (eqb j i))
-          dropped j = ap (λ (z : ℕ). bit z j) el ∙ lowest_out width rest v.fit some' j ∙ ap (λ (z : ℕ). bit rest j && not (eqb j z)) (sym low)
+        module _ {shown dropped left : ℕ} (es : shown ≡ later) (s : Set dropped (λ e. bit shown e && not (bit behind e))) (el : left ≡ dropped) where
+          kept : (j : ℕ) → bit left j ≡ (bit later j && not (bit behind j))
+          kept j = ap (λ (z : ℕ). bit z j) el ∙ s.has j ∙ ap (λ (z : ℕ). bit z j && not (bit behind j)) es
 
           still : (j : ℕ) → bit left j ≡ true → (bit rest j && not (eqb j i)) ≡ true
-          still j t = sym (dropped j) ∙ and_l (bit later j) (not (bit behind j)) (sym (s.has j) ∙ t)
+          still j t = sym (taken.left j) ∙ and_l (bit later j) (not (bit behind j)) (sym (kept j) ∙ t)
 
           in_rest : (j : ℕ) → bit left j ≡ true → bit rest j ≡ true
           in_rest j t = and_l (bit rest j) (not (eqb j i)) (still j t)
@@ -148,12 +142,11 @@ module _ {rows : List ℕ} {k p a mine : ℕ} where
           gone = is_false (λ t. true≢false (sym (and_r (bit rest i) (not (eqb i i)) (still i t)) ∙ ap not (eq-eqb i i refl)))
 
           pub cover-less : count width (bit left) < count width (bit rest)
-          cover-less = count_less width (bit left) (bit rest) (λ j l. in_rest j) i (omega (arith, cover_in, v.small)) here gone
+          cover-less = count_less width (bit left) (bit rest) (λ j l. in_rest j) i (omega (arith, cover_in, v.small)) taken.member gone
 
-          pub cover-next : not x ≡ false → left < 2 ^ width → Covering rows k p a mine others left
-          cover-next t fit = record {
+          pub cover-next : x ≡ true → Covering rows k p a mine others left
+          cover-next t = record {
             small = v.small;
-            fit = fit;
             row = v.row;
             outside = v.outside;
             irreflexive = v.irreflexive;
@@ -165,9 +158,9 @@ module _ {rows : List ℕ} {k p a mine : ℕ} where
               through_i d w = record {
                 through = i;
                 inside = cover_in;
-                follows = (v.within i here).1;
+                follows = (v.within i taken.member).1;
                 reaches = w;
-                onward = λ e le u. imp_e (order_in rows p i e) (order_in rows p a e) (all_get k (λ d. order_in rows p i d ⇒ order_in rows p a d) (sym tests ∙ not-false x t) e le) u;
+                onward = λ e le u. imp_e (order_in rows p i e) (order_in rows p a e) (all_get k (λ d. order_in rows p i d ⇒ order_in rows p a d) (sym tests ∙ t) e le) u;
               }
 
               by : (d : ℕ) → d < k → order_in rows p a d ≡ true → bit left d ≡ false → (q : Bool) → eqb d i ≡ q → (y : Bool) → order_in rows p i d ≡ y → Cover k (order_in rows p) a d
@@ -175,5 +168,5 @@ module _ {rows : List ℕ} {k p a mine : ℕ} where
               by d l u f false q true w = through_i d (or_r (eqb d i) (order_in rows p i d) w)
               by d l u f false q false w =
                   v.cover d l u (is_false (λ z. true≢false
-                  (sym (s.has d
-                  ∙ and_i (bit later d) (not (bit behind d)) (dropped d ∙ and_i (bit rest d) (not (eqb d i)) z (ap not q)) (ap not (ap (λ (y : ℕ). bit y d) er ∙ w))) ∙ f)))
+                  (sym (kept d
+                  ∙ and_i (bit later d) (not (bit behind d)) (taken.left d ∙ and_i (bit rest d) (not (eqb d i)) z (ap not q)) (ap not (ap (λ (y : ℕ). bit y d) er ∙ w))) ∙ f)))

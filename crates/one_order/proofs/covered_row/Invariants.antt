@@ -4,8 +4,8 @@ use Rattle.bits.specs.Bit.{bit, width}
 use Rattle.one_order.proofs.Covers.{Covering}
 use Rattle.one_order.proofs.covered_row.Given as goal
 
-abbrev pub invariant-loop-rest : goal.invariant-loop-rest
-invariant-loop-rest l = Covering l.rows l.k l.p l.a l.mine l.others l.rest
+abbrev pub invariant-loop-b : goal.invariant-loop-b
+invariant-loop-b l = Covering l.rows l.k l.p l.a l.mine l.others l.rest
 
-abbrev pub decreases-loop-rest : goal.decreases-loop-rest
-decreases-loop-rest l = count width (bit l.rest)
+abbrev pub decreases-loop-b : goal.decreases-loop-b
+decreases-loop-b l = count width (bit l.rest)

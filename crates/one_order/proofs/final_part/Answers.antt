@@ -1,33 +1,22 @@
 -- `one_order::final_part` meets its contract. Assumes nothing.
+use Prim.Native.Nat.{ℕ}
 use native.Mathlib.Omega.{arith}
-use lib.ListN.{get_or}
-use Rattle.rows.specs.Sets.{order_in}
+use mathlib.Core.Path.{ap, ◌∙◌}
+use Rattle.rows.specs.Sets.{row_in, order_in}
 use Rattle.one_order.proofs.FinalParts.{part-next, follow_part}
 use Rattle.one_order.proofs.final_part.Goals as goal
 
-pub overflow_cast-sizes : goal.overflow_cast-sizes
-overflow_cast-sizes c =
-    omega (arith, c.requires.named.event 1 (omega arith))
-
 pub last_after-part-requires-clause-b_lt_most_events : goal.last_after-part-requires-clause-b_lt_most_events
 last_after-part-requires-clause-b_lt_most_events c =
-    c.requires.named.event 1 (omega arith)
+    omega (arith, c.from.ensures, c.requires.named.event 1 (omega arith))
 
 pub loop-i-init : goal.loop-i-init
 loop-i-init c =
     c.last_after-part.ensures
 
-pub bounds-sizes-i : goal.bounds-sizes-i
-bounds-sizes-i c =
-    omega (arith, c.loop-i-test.true, c.requires.k_le_most_events)
-
-pub overflow_cast-a : goal.overflow_cast-a
-overflow_cast-a c =
-    omega (arith, c.requires.named.event c.loop-i.i (omega (arith, c.loop-i-test.true, c.requires.k_le_most_events)))
-
 pub row-requires-clause-a_lt_most_events : goal.row-requires-clause-a_lt_most_events
 row-requires-clause-a_lt_most_events c =
-    c.requires.named.event c.loop-i.i (omega (arith, c.loop-i-test.true, c.requires.k_le_most_events))
+    omega (arith, c.from-a.ensures, c.requires.named.event c.loop-i.i (omega (arith, c.loop-i-test.true, c.requires.k_le_most_events)))
 
 pub returns-then-both-part : goal.returns-then-both-part
 returns-then-both-part c =
@@ -35,11 +24,11 @@ returns-then-both-part c =
 
 pub with-part-requires : goal.with-part-requires
 with-part-requires c =
-    c.requires.named.event c.loop-i.i (omega (arith, c.loop-i-test.true, c.requires.k_le_most_events))
+    omega (arith, c.from-a.ensures, c.requires.named.event c.loop-i.i (omega (arith, c.loop-i-test.true, c.requires.k_le_most_events)))
 
 pub loop-i-preserved : goal.loop-i-preserved
 loop-i-preserved c =
-    let a = get_or c.args.sizes.now c.loop-i.i 0 in
+    let a = c.from-a.result in
     part-next c.args.k (order_in c.args.rows.now c.args.p) a c.loop-i.invariant
     (follow_part c.args.rows.now c.args.k c.args.p a c.row.ensures c.below-events.ensures c.both.ensures c.if-both-part.false)
     c.with-part.ensures

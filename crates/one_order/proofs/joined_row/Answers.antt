@@ -15,12 +15,12 @@ loop-q-init c =
 
 pub row-requires-clause-p_lt_most_threads : goal.row-requires-clause-p_lt_most_threads
 row-requires-clause-p_lt_most_threads c =
-    omega (arith, c.or_last.ensures, c.requires.le_n, c.requires.n_le_most_threads)
+    omega (arith, c.min.ensures, c.requires.le_n, c.requires.n_le_most_threads)
 
 pub loop-q-preserved : goal.loop-q-preserved
 loop-q-preserved c =
     join_next c.loop-q.invariant c.loop-q-test.true
-    (as_set (c.row.ensures ∙ ap (λ (q : ℕ). row_in c.args.rows.now q c.args.e) c.or_last.ensures)) c.both-shared.ensures
+    (as_set (c.row.ensures ∙ ap (λ (q : ℕ). row_in c.args.rows.now q c.args.e) c.min.ensures)) c.both-shared.ensures
 
 pub returns : goal.returns
 returns c =

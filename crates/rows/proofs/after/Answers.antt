@@ -11,18 +11,9 @@ pub loop-b-init : goal.loop-b-init
 loop-b-init c =
     let s = c.args in collect_first c.into_iter-b-iterator.ensures.into_iter_gives c.members_below-b-items.ensures (λ j e h. ap (λ t. t && order_in s.rows.now s.p j e) h)
 
-pub row-found-requires-clause-a_lt_most_events : goal.row-found-requires-clause-a_lt_most_events
-row-found-requires-clause-a_lt_most_events c =
-    let below = event_below c.loop-b.invariant.within c.in-Some.ensures.steps in
-    omega arith
-
 pub loop-b-preserved : goal.loop-b-preserved
 loop-b-preserved c =
     let s = c.args in
     collect_next c.loop-b.invariant c.in-Some.ensures.steps
     (set_same (as_set c.row-found.ensures)
     (λ e. ap (λ t. t && order_in s.rows.now s.p c.in-Some.b e) (sym (event_of c.loop-b.invariant.within c.in-Some.ensures.steps))))
-
-pub returns : goal.returns
-returns c =
-    collect_end c.loop-b.invariant c.in-None.ensures.steps

@@ -11,7 +11,3 @@ loop-p-init c =
 pub loop-p-preserved : goal.loop-p-preserved
 loop-p-preserved c =
     joins c.loop-p.invariant c.loop-p-test.true (as_set c.row-found.ensures)
-
-pub returns : goal.returns
-returns c =
-    united c.loop-p.invariant c.loop-p-test.false

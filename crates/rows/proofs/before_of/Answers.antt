@@ -15,15 +15,6 @@ loop-a-init c =
     collect_first c.into_iter-a-iterator.ensures.into_iter_gives c.members_below-a-items.ensures
     (λ j e h. ap (λ t. t && order_in s.rows.now s.p j s.b && eqb e j) h)
 
-pub before_one_of-found-requires-clause-a_lt_most_events : goal.before_one_of-found-requires-clause-a_lt_most_events
-before_one_of-found-requires-clause-a_lt_most_events c =
-    let below = event_below c.loop-a.invariant.within c.in-Some.ensures.steps in
-    omega arith
-
-pub before_one_of-found-requires-clause-a_value : goal.before_one_of-found-requires-clause-a_value
-before_one_of-found-requires-clause-a_value c =
-    event_of c.loop-a.invariant.within c.in-Some.ensures.steps
-
 pub loop-a-preserved : goal.loop-a-preserved
 loop-a-preserved c =
     collect_next c.loop-a.invariant c.in-Some.ensures.steps c.before_one_of-found.ensures

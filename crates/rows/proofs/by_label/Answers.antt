@@ -12,17 +12,9 @@ use Rattle.rows.proofs.Loops.{unfilled, fills, filled}
 use Rattle.rows.proofs.SetLaws.{share, as_set}
 use Rattle.rows.proofs.by_label.Goals as goal
 
-pub loop-x-init : goal.loop-x-init
-loop-x-init c =
-    unfilled (search rules)
-
 pub loop-x-preserved : goal.loop-x-preserved
 loop-x-preserved c =
     let s = c.args in
     fills c.loop-x.invariant c.loop-x-test.true
     (subst (λ (r : ℕ). Set r (λ e. bit s.set e && (ltb e s.k && eqb (get_or s.bytes.now e 0) c.loop-x.x))) (sym c.both.ensures)
     (share (as_set refl) c.labelled.ensures))
-
-pub returns : goal.returns
-returns c =
-    filled c.loop-x.invariant c.loop-x-test.false

@@ -2,10 +2,6 @@
 use Rattle.rows.proofs.SetLaws.{so, not_so}
 use Rattle.rows.proofs.where_so.Goals as goal
 
-pub returns-then-test : goal.returns-then-test
-returns-then-test c =
-    so c.args.test c.args.set c.if-test.true
-
 pub returns-else-test : goal.returns-else-test
 returns-else-test c =
     not_so c.args.test c.args.set c.if-test.false
