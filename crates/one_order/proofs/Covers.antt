@@ -13,7 +13,6 @@ use Rattle.finite.specs.Tests.{all, count, ◌⇒◌}
 use Rattle.finite.proofs.Tests.{and_l, and_r, and_i, or_l, or_r, or_e, imp_e, imp_i, is_false, all_get, all_make, all_same, all-not, count_less}
 use Rattle.bits.specs.Bit.{bit, width}
 use Rattle.bits.specs.Members.{Taken}
-use Rattle.bits.proofs.Bits.{bit-zero}
 use Rattle.model.specs.Limits.{most_events}
 use Rattle.rows.specs.Sets.{Set, row_in, order_in}
 use Rattle.rows.proofs.SetLaws.{set_same, set_below, masked}

@@ -1,5 +1,4 @@
 -- `one_order::alike` meets its contract. Assumes nothing.
-use native.Mathlib.Omega.{arith}
 use Rattle.finite.proofs.Tests.{loop_fails}
 use Rattle.one_order.specs.Alike.{as_first}
 use Rattle.one_order.proofs.AlikeOrders.{first_alike, next-alike, all_alike}

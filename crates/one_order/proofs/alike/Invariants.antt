@@ -1,5 +1,4 @@
 -- `one_order::alike` meets its contract. Assumes nothing.
-use Prim.Native.Nat.{◌-◌}
 use mathlib.Core.Path.{◌≡◌}
 use mathlib.Core.Bool.{true}
 use Rattle.finite.specs.Tests.{all}

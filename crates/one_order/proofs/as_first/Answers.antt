@@ -1,5 +1,4 @@
 -- `one_order::as_first` meets its contract. Assumes nothing.
-use native.Mathlib.Omega.{arith}
 use Rattle.one_order.proofs.AlikeOrders.{compare_none, compare_next, compare_all}
 use Rattle.one_order.proofs.as_first.Goals as goal
 

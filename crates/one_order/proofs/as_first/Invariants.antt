@@ -1,5 +1,4 @@
 -- `one_order::as_first` meets its contract. Assumes nothing.
-use Prim.Native.Nat.{◌-◌}
 use Rattle.one_order.proofs.AlikeOrders.{Compared}
 use Rattle.one_order.proofs.as_first.Given as goal
 

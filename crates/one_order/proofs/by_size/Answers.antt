@@ -1,6 +1,5 @@
 -- `one_order::by_size` meets its contract. Assumes nothing.
 use borrow.Author.Rules.{rules}
-use native.Mathlib.Omega.{arith}
 use Rattle.one_order.proofs.FinalParts.{unnamed, size_fits, names}
 use Rattle.one_order.proofs.by_size.Goals as goal
 

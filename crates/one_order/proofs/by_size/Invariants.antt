@@ -1,5 +1,4 @@
 -- `one_order::by_size` meets its contract. Assumes nothing.
-use Prim.Native.Nat.{◌-◌}
 use Rattle.one_order.proofs.FinalParts.{Naming}
 use Rattle.one_order.proofs.by_size.Given as goal
 

@@ -1,5 +1,4 @@
 -- `one_order::covered_order` meets its contract. Assumes nothing.
-use native.Mathlib.Omega.{arith}
 use Rattle.one_order.proofs.Covers.{rows-begun, rows_fail, rows_next, rows_end}
 use Rattle.one_order.proofs.covered_order.Goals as goal
 

@@ -1,5 +1,4 @@
 -- `one_order::covered_order` meets its contract. Assumes nothing.
-use Prim.Native.Nat.{◌-◌}
 use Rattle.rows.specs.Sets.{order_in}
 use Rattle.one_order.proofs.Covers.{CoveredTo}
 use Rattle.one_order.proofs.covered_order.Given as goal

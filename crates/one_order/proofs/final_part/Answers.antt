@@ -1,8 +1,6 @@
 -- `one_order::final_part` meets its contract. Assumes nothing.
-use Prim.Native.Nat.{ℕ}
 use native.Mathlib.Omega.{arith}
-use mathlib.Core.Path.{ap, ◌∙◌}
-use Rattle.rows.specs.Sets.{row_in, order_in}
+use Rattle.rows.specs.Sets.{order_in}
 use Rattle.one_order.proofs.FinalParts.{part-next, follow_part}
 use Rattle.one_order.proofs.final_part.Goals as goal
 

@@ -1,5 +1,4 @@
 -- `one_order::final_part` meets its contract. Assumes nothing.
-use Prim.Native.Nat.{◌-◌}
 use Rattle.rows.specs.Sets.{order_in}
 use Rattle.one_order.specs.FinalParts.{FinalPart}
 use Rattle.one_order.proofs.final_part.Given as goal

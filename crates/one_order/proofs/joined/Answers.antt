@@ -1,6 +1,5 @@
 -- `one_order::joined` meets its contract. Assumes nothing.
 use borrow.Author.Rules.{rules}
-use native.Mathlib.Omega.{arith}
 use Rattle.rows.proofs.Loops.{unfilled, fills, filled}
 use Rattle.one_order.proofs.joined.Goals as goal
 

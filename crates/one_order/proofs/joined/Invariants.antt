@@ -1,5 +1,4 @@
 -- `one_order::joined` meets its contract. Assumes nothing.
-use Prim.Native.Nat.{◌-◌}
 use Rattle.finite.specs.Tests.{all}
 use Rattle.rows.specs.Sets.{order_in}
 use Rattle.rows.proofs.Loops.{Filled}

@@ -1,5 +1,4 @@
 -- `orders::closed_by_threes` meets its contract. Assumes nothing.
-use native.Mathlib.Omega.{arith}
 use mathlib.Core.Path.{sym, ◌∙◌}
 use Rattle.finite.proofs.Loops.{begun, fails, passes, ends}
 use Rattle.rows.specs.Sets.{order_in}

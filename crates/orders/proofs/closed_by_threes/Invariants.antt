@@ -1,5 +1,4 @@
 -- `orders::closed_by_threes` meets its contract. Assumes nothing.
-use Prim.Native.Nat.{◌-◌}
 use Rattle.finite.specs.Tests.{all}
 use Rattle.finite.proofs.Loops.{Passed}
 use Rattle.rows.specs.Sets.{order_in}

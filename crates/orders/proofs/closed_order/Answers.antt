@@ -1,5 +1,4 @@
 -- `orders::closed_order` meets its contract. Assumes nothing.
-use native.Mathlib.Omega.{arith}
 use Rattle.finite.proofs.Loops.{begun, fails, passes, ends}
 use Rattle.orders.proofs.closed_order.Goals as goal
 

@@ -1,5 +1,4 @@
 -- `orders::closed_order_by_threes` meets its contract. Assumes nothing.
-use Prim.Native.Nat.{◌-◌}
 use Rattle.rows.specs.Sets.{order_in}
 use Rattle.finite.proofs.Loops.{Passed}
 use Rattle.orders.specs.Parts.{closed}

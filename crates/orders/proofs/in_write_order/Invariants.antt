@@ -1,5 +1,5 @@
 -- `orders::in_write_order` meets its contract. Assumes nothing.
-use Prim.Native.Nat.{◌+◌, ◌-◌, ◌*◌}
+use Prim.Native.Nat.{◌+◌, ◌*◌}
 use lib.ListN.{get_or}
 use Rattle.model.specs.Limits.{most_events}
 use Rattle.orders.proofs.Laws.{Walked}

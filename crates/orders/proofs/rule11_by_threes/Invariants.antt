@@ -1,5 +1,4 @@
 -- `orders::rule11_by_threes` meets its contract. Assumes nothing.
-use Prim.Native.Nat.{◌-◌}
 use Rattle.finite.specs.Tests.{all}
 use Rattle.rows.specs.Sets.{order_in}
 use Rattle.finite.proofs.Loops.{Passed}

@@ -1,5 +1,4 @@
 -- `orders::rule13` meets its contract. Assumes nothing.
-use native.Mathlib.Omega.{arith}
 use mathlib.Core.Path.{◌∙◌}
 use Rattle.finite.proofs.Loops.{begun, fails, passes, ends}
 use Rattle.orders.proofs.Laws.{by_listing}

@@ -1,5 +1,4 @@
 -- `orders::rule13` meets its contract. Assumes nothing.
-use Prim.Native.Nat.{◌-◌}
 use Rattle.finite.specs.Tests.{all}
 use Rattle.rows.specs.Sets.{order_in, set_in}
 use Rattle.bits.specs.Bit.{bit}

@@ -1,9 +1,8 @@
 -- `rows::after` meets its contract. Assumes nothing.
-use native.Mathlib.Omega.{arith}
 use mathlib.Core.Bool.{◌&&◌}
 use mathlib.Core.Path.{sym, ap}
 use Rattle.rows.specs.Sets.{order_in}
-use Rattle.rows.proofs.Each.{collect_first, event_below, event_of, collect_next, collect_end}
+use Rattle.rows.proofs.Each.{collect_first, event_of, collect_next}
 use Rattle.rows.proofs.SetLaws.{as_set, set_same}
 use Rattle.rows.proofs.after.Goals as goal
 

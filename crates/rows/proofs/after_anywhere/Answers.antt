@@ -1,6 +1,5 @@
 -- `rows::after_anywhere` meets its contract. Assumes nothing.
-use native.Mathlib.Omega.{arith}
-use Rattle.rows.proofs.Loops.{empty, joins, united}
+use Rattle.rows.proofs.Loops.{empty, joins}
 use Rattle.rows.proofs.SetLaws.{as_set}
 use Rattle.rows.proofs.after_anywhere.Goals as goal
 

@@ -1,5 +1,4 @@
 -- `rows::after_anywhere` meets its contract. Assumes nothing.
-use Prim.Native.Nat.{◌-◌}
 use Rattle.rows.specs.Sets.{order_in}
 use Rattle.rows.proofs.Loops.{United}
 use Rattle.rows.proofs.after_anywhere.Given as goal

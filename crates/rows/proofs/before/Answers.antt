@@ -1,5 +1,4 @@
 -- `rows::before` meets its contract. Assumes nothing.
-use native.Mathlib.Omega.{arith}
 use Rattle.rows.specs.Sets.{order_in}
 use Rattle.rows.proofs.Loops.{empty, joins, united}
 use Rattle.rows.proofs.SetLaws.{set_same, some_only}

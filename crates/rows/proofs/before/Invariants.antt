@@ -1,5 +1,4 @@
 -- `rows::before` meets its contract. Assumes nothing.
-use Prim.Native.Nat.{◌-◌}
 use mathlib.Core.Bool.{◌&&◌}
 use lib.Dec.{eqb}
 use Rattle.rows.specs.Sets.{order_in}

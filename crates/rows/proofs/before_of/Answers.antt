@@ -1,11 +1,10 @@
 -- `rows::before_of` meets its contract. Assumes nothing.
-use native.Mathlib.Omega.{arith}
 use lib.Dec.{eqb}
 use mathlib.Core.Bool.{◌&&◌}
 use mathlib.Core.Path.{ap}
 use Rattle.bits.specs.Bit.{bit}
 use Rattle.rows.specs.Sets.{order_in}
-use Rattle.rows.proofs.Each.{collect_first, event_below, event_of, collect_next, collect_end}
+use Rattle.rows.proofs.Each.{collect_first, collect_next, collect_end}
 use Rattle.rows.proofs.SetLaws.{set_same, some_only}
 use Rattle.rows.proofs.before_of.Goals as goal
 

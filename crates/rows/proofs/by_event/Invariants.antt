@@ -1,5 +1,4 @@
 -- `rows::by_event` meets its contract. Assumes nothing.
-use Prim.Native.Nat.{◌-◌}
 use mathlib.Core.Bool.{◌&&◌}
 use lib.ListN.{get_or}
 use Rattle.rows.specs.Sets.{set_in}

@@ -1,14 +1,12 @@
 -- `rows::by_label` meets its contract. Assumes nothing.
 use Prim.Native.Nat.{ℕ}
-use borrow.Author.Rules.{rules}
-use native.Mathlib.Omega.{arith}
 use mathlib.Core.Path.{sym, subst, refl}
 use mathlib.Core.Bool.{◌&&◌}
 use lib.Dec.{eqb, ltb}
 use lib.ListN.{get_or}
 use Rattle.rows.specs.Sets.{Set}
 use Rattle.bits.specs.Bit.{bit}
-use Rattle.rows.proofs.Loops.{unfilled, fills, filled}
+use Rattle.rows.proofs.Loops.{fills}
 use Rattle.rows.proofs.SetLaws.{share, as_set}
 use Rattle.rows.proofs.by_label.Goals as goal
 

@@ -1,5 +1,4 @@
 -- `rows::by_label` meets its contract. Assumes nothing.
-use Prim.Native.Nat.{◌-◌}
 use mathlib.Core.Bool.{◌&&◌}
 use lib.Dec.{eqb, ltb}
 use lib.ListN.{get_or}

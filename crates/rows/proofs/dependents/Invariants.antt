@@ -1,5 +1,4 @@
 -- `rows::dependents` meets its contract. Assumes nothing.
-use Prim.Native.Nat.{◌-◌}
 use Rattle.rows.proofs.Loops.{Linked}
 use Rattle.rows.proofs.dependents.Given as goal
 

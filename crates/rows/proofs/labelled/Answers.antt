@@ -1,5 +1,4 @@
 -- `rows::labelled` meets its contract. Assumes nothing.
-use native.Mathlib.Omega.{arith}
 use lib.Dec.{eqb}
 use lib.ListN.{get_or}
 use Rattle.rows.proofs.Loops.{empty, joins, united}

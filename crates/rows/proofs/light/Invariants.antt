@@ -1,5 +1,4 @@
 -- `rows::light` meets its contract. Assumes nothing.
-use Prim.Native.Nat.{◌-◌}
 use mathlib.Core.Bool.{◌&&◌}
 use lib.Dec.{ltb}
 use Rattle.rows.specs.Sets.{light_in}

@@ -1,5 +1,4 @@
 -- `rows::paired` meets its contract. Assumes nothing.
-use Prim.Native.Nat.{◌-◌}
 use mathlib.Core.Bool.{◌&&◌, ◌||◌}
 use lib.Dec.{eqb, ltb}
 use Rattle.finite.specs.Tests.{some}

@@ -1,5 +1,5 @@
 -- `rows::where_so` meets its contract. Assumes nothing.
-use Rattle.rows.proofs.SetLaws.{so, not_so}
+use Rattle.rows.proofs.SetLaws.{not_so}
 use Rattle.rows.proofs.where_so.Goals as goal
 
 pub returns-else-test : goal.returns-else-test
