@@ -1,13 +1,16 @@
 -- A loop that stores f at each place of a list, from the front: the one law of all loops that fill an array.
 -- Assumes nothing.
-use Prim.Native.Nat.{ℕ, suc, ◌+◌, ◌≤◌, ◌<◌}
-use mathlib.Core.Path.{◌≡◌, refl, ap, ◌∙◌}
-use mathlib.Core.List.{List, ◌++◌}
+use Prim.Native.Nat.{ℕ, zero, suc, ◌+◌, ◌-◌, ◌≤◌, ◌<◌}
+use mathlib.Core.Path.{◌≡◌, refl, sym, ap, ap₂, ◌∙◌}
+use mathlib.Core.List.{List, [], ◌∷◌, ◌++◌}
 use native.Mathlib.Nat.{le_antisymm}
 use native.Mathlib.Numerals.{add-one}
 use native.Mathlib.Omega.{arith}
-use lib.ListN.{length, get_or, set, drop, replicate, length-set, length-replicate}
+use lib.ListN.{length, get_or, set, take, drop, replicate, length-set, length-replicate, length-drop}
+use Rattle.std.proofs.Common.{get_or-drop}
+use Rattle.std.proofs.lemmas.List.{take_more}
 use lib.Seq.{drop-cons, set_at, append_snoc}
+use borrow.Rule.Slice.PartMut.{put_mid}
 use Rattle.finite.specs.Lists.{table}
 use Rattle.finite.proofs.Lists.{table-length, table_more}
 use Rattle.case.specs.Held.{pad}
@@ -48,3 +51,18 @@ module _ (n k : ℕ) (f : ℕ → ℕ) where
 
   pub all_padded : (out : List ℕ) (i : ℕ) → Filling f k (replicate n 0) out i → k ≤ i → out ≡ pad n (table 0 k f)
   all_padded out i t l = all_filled f k (replicate n 0) out i t l ∙ padded n k _ (table-length 0 k f)
+
+-- the part of xs from a place on, and as a table
+part-table : (xs : List ℕ) (from n : ℕ) → from + n ≤ length xs → take n (drop from xs) ≡ table 0 n (λ i. get_or xs (from + i) 0)
+unfolding table
+part-table xs from zero h = refl
+part-table xs from (suc n) h =
+    let l : n < length (drop from xs) = simp length-drop (omega arith) in
+    ap (λ (j : ℕ). take j (drop from xs)) (sym (add-one n)) ∙ take_more (drop from xs) n 0 l
+    ∙ ap₂ (λ (x : List ℕ) (y : ℕ). x ++ (y ∷ [])) (part-table xs from n (omega arith)) (get_or-drop from xs n 0)
+    ∙ sym (table_more n (λ i. get_or xs (from + i) 0)) ∙ ap (λ (j : ℕ). table 0 j (λ i. get_or xs (from + i) 0)) (add-one n)
+
+-- n elements of xs copied to the front of a list
+pub copied_front : (xs : List ℕ) (from n : ℕ) (out : List ℕ) → from + n ≤ length xs → n ≤ length out
+    → (front : List ℕ) → front ≡ take (from + n - from) (drop from xs) → put_mid 0 n out front ≡ table 0 n (λ i. get_or xs (from + i) 0) ++ drop n out
+copied_front xs from n out h l front e = let m : from + n - from ≡ n = omega arith in rw (e, m, part-table xs from n h)

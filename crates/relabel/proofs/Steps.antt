@@ -2,19 +2,11 @@
 -- Assumes nothing.
 use Prim.Native.Nat.{ℕ, ◌-◌, ◌%◌, ◌^◌, ◌<◌}
 use mathlib.Core.Path.{◌≡◌, sym, ap, subst, ◌∙◌}
-use mathlib.Core.Bool.{Bool, true, false, cond}
 use mathlib.Core.List.{List}
 use lib.ListN.{get_or}
 use lib.Bits.{bit_and, and_mask}
 use Rattle.permutation.specs.Permutation.{image, inverse, labels}
 use Rattle.permutation.proofs.Laws.{image_label}
-
--- a test that answered t
-pub cond_yes : {A : Type 0} (b t : Bool) (x y : A) → t ≡ b → t ≡ true → x ≡ cond b x y
-cond_yes b t x y e h = rw (sym e ∙ h)
-
-pub cond_no : {A : Type 0} (b t : Bool) (x y z : A) → t ≡ b → t ≡ false → z ≡ y → z ≡ cond b x y
-cond_no b t x y z e h s = rw (sym e ∙ h) s
 
 -- a row under the mask of the events below k
 pub masked : (row mask k v : ℕ) → mask ≡ 2 ^ k - 1 → v ≡ bit_and row mask → v ≡ row % 2 ^ k

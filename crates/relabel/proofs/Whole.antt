@@ -22,8 +22,6 @@ use Rattle.case.specs.Sound.{Sound}
 use Rattle.case.specs.Stores.{writes_at}
 use Rattle.case.proofs.Events.{event_by}
 use Rattle.case.proofs.Means.{writes-of}
-use Rattle.relabel.specs.declared.Kept.{Kept}
-use Rattle.relabel.specs.Links.{LinksKept}
 use Rattle.relabel.specs.Orders.{order}
 use Rattle.case.proofs.Pad.{padded}
 
@@ -101,13 +99,16 @@ module _ (q r : ℕ) (c : Held) (fit : fitting q r (case_of c) ≡ true) where
   unfolding links_of
   links_long = table-length 0 count link_at
 
-  pub renumbered : (initial kind thread address value : List ℕ) (l : Kept) (writes rows name : List ℕ)
+  pub renumbered : (initial kind thread address value : List ℕ) (i : ℕ) (class from to writes rows name : List ℕ)
       → initial ≡ pad most_addresses (table 0 c.addresses (λ y. get_or c.initial (image (inverse r) y) 0))
       → kind ≡ pad most_events (table 0 c.events (λ e. get_or c.kind e 0))
       → thread ≡ pad most_events (table 0 c.events (λ e. image q (get_or c.thread e 0)))
       → address ≡ pad most_events (table 0 c.events (λ e. cond (bare (get_or c.kind e 0)) 0 (image r (get_or c.address e 0))))
       → value ≡ pad most_events (table 0 c.events (λ e. cond (bare (get_or c.kind e 0)) 0 (get_or c.value e 0)))
-      → LinksKept c l
+      → i ≡ count
+      → class ≡ pad most_dependencies (table 0 i (λ j. get_or c.class j 0))
+      → from ≡ pad most_dependencies (table 0 i (λ j. get_or c.from j 0))
+      → to ≡ pad most_dependencies (table 0 i (λ j. get_or c.to j 0))
       → writes
       ≡ pad (most_addresses * most_events)
       (rows_of most_events (table 0 c.addresses (λ y. writes_at c.kind c.address c.writes c.events (image (inverse r) y))))
@@ -124,10 +125,10 @@ module _ (q r : ℕ) (c : Held) (fit : fitting q r (case_of c) ≡ true) where
         thread = thread;
         address = address;
         value = value;
-        dependencies = l.dependencies;
-        class = l.class;
-        from = l.from;
-        to = l.to;
+        dependencies = i;
+        class = class;
+        from = from;
+        to = to;
         writes = writes;
         rows = rows;
         name = name;
@@ -135,28 +136,28 @@ module _ (q r : ℕ) (c : Held) (fit : fitting q r (case_of c) ≡ true) where
       })
       (held (renumber q r (case_of c)))
   unfolding held renumber case_of events_of event_of
-  renumbered initial kind thread address value l writes rows name hi hk ht ha hv hl hw ho hn i = record {
+  renumbered initial kind thread address value i class from to writes rows name hi hk ht ha hv hl hx hf hg hw ho hn j = record {
     edition = c.edition;
     threads = c.threads;
     addresses = c.addresses;
     events = c.events;
-    initial = (hi ∙ ap (pad most_addresses) (sym (moved-table r c.addresses 0 (λ x. get_or c.initial x 0) fit_addresses))) i;
-    kind = (hk ∙ field (λ e. e.kind)) i;
-    thread = (ht ∙ field (λ e. e.thread)) i;
-    address = (ha ∙ field (λ e. e.address)) i;
-    value = (hv ∙ field (λ e. e.value)) i;
-    dependencies = (hl.count ∙ sym links_long) i;
-    class = link_field (λ d. d.class) l.dependencies l.class hl.count hl.class i;
-    from = link_field (λ d. d.from) l.dependencies l.from hl.count hl.from i;
-    to = link_field (λ d. d.to) l.dependencies l.to hl.count hl.to i;
+    initial = (hi ∙ ap (pad most_addresses) (sym (moved-table r c.addresses 0 (λ x. get_or c.initial x 0) fit_addresses))) j;
+    kind = (hk ∙ field (λ e. e.kind)) j;
+    thread = (ht ∙ field (λ e. e.thread)) j;
+    address = (ha ∙ field (λ e. e.address)) j;
+    value = (hv ∙ field (λ e. e.value)) j;
+    dependencies = (hl ∙ sym links_long) j;
+    class = link_field (λ d. d.class) i class hl hx j;
+    from = link_field (λ d. d.from) i from hl hf j;
+    to = link_field (λ d. d.to) i to hl hg j;
     writes =
         (hw
         ∙ ap (λ l. pad (most_addresses * most_events) (rows_of most_events l))
-        (sym (ap (moved r c.addresses []) (writes-of c) ∙ moved-table r c.addresses [] _ fit_addresses))) i;
+        (sym (ap (moved r c.addresses []) (writes-of c) ∙ moved-table r c.addresses [] _ fit_addresses))) j;
     rows =
         (ho
         ∙ ap (λ l. pad (most_threads * most_events) (rows_of most_events l))
-        (sym (moved-table q c.threads [] (order c.events c.rows) fit_threads))) i;
-    name = hn i;
-    namelength = sym (table-length 0 c.namelength (λ i. get_or c.name i 0)) i;
+        (sym (moved-table q c.threads [] (order c.events c.rows) fit_threads))) j;
+    name = hn j;
+    namelength = sym (table-length 0 c.namelength (λ i. get_or c.name i 0)) j;
   }

@@ -7,12 +7,12 @@ pub loop-y-init : goal.loop-y-init
 loop-y-init c =
     search begun-zeros
 
-pub offset_bounds-initial-image : goal.offset_bounds-initial-image
-offset_bounds-initial-image c =
+pub offset_bounds-c-image : goal.offset_bounds-c-image
+offset_bounds-c-image c =
     omega (arith, pulled_below _ _ _ c.image.ensures (omega arith))
 
-pub bounds-initial-image : goal.bounds-initial-image
-bounds-initial-image c =
+pub bounds-c-image : goal.bounds-c-image
+bounds-c-image c =
     omega (arith, pulled_below _ _ _ c.image.ensures (omega arith))
 
 pub loop-y-preserved : goal.loop-y-preserved

@@ -1,4 +1,3 @@
-use Prim.Native.Nat.{◌-◌}
 use lib.ListN.{get_or, replicate}
 use Rattle.model.specs.Limits.{most_addresses}
 use Rattle.permutation.specs.Permutation.{image, inverse}
@@ -6,7 +5,4 @@ use Rattle.relabel.proofs.Fill.{Filling}
 use Rattle.relabel.proofs.initials.Given as goal
 
 abbrev pub invariant-loop-y : goal.invariant-loop-y
-invariant-loop-y l = Filling (λ x. get_or l.initial' (image (inverse l.r) x) 0) l.m (replicate most_addresses 0) l.out l.y
-
-abbrev pub decreases-loop-y : goal.decreases-loop-y
-decreases-loop-y l = l.m - l.y
+invariant-loop-y l = Filling (λ x. get_or l.c.initial (image (inverse l.r) x) 0) l.c.addresses (replicate most_addresses 0) l.out l.y

@@ -1,4 +1,3 @@
-use Prim.Native.Nat.{◌-◌}
 use mathlib.Core.Bool.{cond}
 use lib.ListN.{get_or, replicate}
 use Rattle.model.specs.Limits.{most_events}
@@ -7,7 +6,4 @@ use Rattle.relabel.proofs.Fill.{Filling}
 use Rattle.relabel.proofs.values.Given as goal
 
 abbrev pub invariant-loop-e : goal.invariant-loop-e
-invariant-loop-e l = Filling (λ x. cond (bare (get_or l.kinds x 0)) 0 (get_or l.vs x 0)) l.k (replicate most_events 0) l.out l.e
-
-abbrev pub decreases-loop-e : goal.decreases-loop-e
-decreases-loop-e l = l.k - l.e
+invariant-loop-e l = Filling (λ x. cond (bare (get_or l.c.kind x 0)) 0 (get_or l.c.value x 0)) l.c.events (replicate most_events 0) l.out l.e
