@@ -10,7 +10,7 @@ ghost use Rattle.model.specs.Case.{bare as bare_kind, most_kind, store, by_addre
 ghost use Rattle.model.specs.Record.{dependency_rank};
 ghost use Rattle.model.specs.Fault.{event_good, dependency_within, dependency_fault, write_fault, writes_fault, name_fault, fault as fault_of};
 ghost use Rattle.model.specs.Bound.{most_bytes};
-ghost use Rattle.case.specs.Held.{event_at, link_count, link, link_of, Among, links_of, good_at, links_fault, case_of, empty_case};
+ghost use Rattle.case.specs.Held.{event_at, link_count, link_of, Among, links_of, good_at, links_fault, case_of, empty_case};
 ghost use Rattle.case.specs.Faults.{fault_number};
 ghost use Rattle.case.specs.Stores.{store_at, writes_at};
 
@@ -292,17 +292,6 @@ impl Link {
     }
 }
 
-// A dependency's rank among k events: by the event it goes from, the one it goes to, and its class.
-pub fn link_rank(k: usize, class: usize, from: usize, to: usize) -> usize
-    requires k_le_most_events { k ≤ most_events }
-    requires class_le_most_class { class ≤ most_class }
-    requires from_lt_k { from < k }
-    requires to_lt_k { to < k }
-    ensures { result ≡ dependency_rank k (link class from to) }
-{
-    Link { class, from, to }.rank(k)
-}
-
 // Whether a dependency of the class must end in a store: by data and by control, and not by address.
 fn ends_in_store(class: usize) -> bool
     requires { class ≤ most_class }
@@ -317,25 +306,6 @@ fn may_end(class: usize, kind: u8) -> bool
     ensures { result ≡ (not (bare_kind kind) && (eqb class by_address || eqb kind store)) }
 {
     !bare(kind) && (!ends_in_store(class) || kind == Case::STORE)
-}
-
-// Whether a dependency may follow those below rank least.
-pub fn link_follows(
-    kinds: &[u8; Case::MOST_EVENTS],
-    owners: &[u8; Case::MOST_EVENTS],
-    k: usize,
-    least: usize,
-    class: usize,
-    from: usize,
-    to: usize,
-) -> bool
-    requires k_le_most_events { k ≤ most_events }
-    requires class_le_most_class { class ≤ most_class }
-    requires from_lt_k { from < k }
-    requires to_lt_k { to < k }
-    ensures { result ≡ (leb least (dependency_rank k (link class from to)) && good_at k kinds.now owners.now (link class from to)) }
-{
-    Link { class, from, to }.follows(kinds, owners, k, least)
 }
 
 // Dependency i of a case.
