@@ -5,16 +5,25 @@ use mathlib.Core.Path.{◌≡◌, refl, sym}
 use mathlib.Core.List.{List, []}
 use lib.ListN.{length}
 use Rattle.number.specs.Number.{read_number}
-use Rattle.number.specs.Reader.{stop, next, up_to, turns, times}
+use Rattle.number.specs.Reader.{stop, next, up_to, within, turns, times}
 use Rattle.number.proofs.Laws.{read_within}
 use Rattle.model.specs.Limits.{most_threads, most_addresses, most_events, most_value, most_name}
 use Rattle.model.specs.Record.{event, next_write_order, order, text, listing, rest}
 use Rattle.case.specs.Stores.{store_at}
+use borrow.Author.Tests.{leb-true}
+use Rattle.reader.specs.Counts.{Counts}
 use Rattle.reader.specs.Answers.{Done, Counted, Padded, Tabled, Events, ListingStored, RestStored}
-use Rattle.reader.proofs.Forward.{gone, forward_text}
+use Rattle.reader.proofs.Forward.{gone, forward_within, forward_text}
 
 pub up_to_most : (s : List ℕ) (at hi v p : ℕ) → next v p ≡ read_number s at hi → v ≤ hi
 up_to_most s at hi v p e = read_within s at hi v p (sym e)
+
+-- the counts of a head
+pub counts_in : (s : List ℕ) (at n p m q : ℕ) → next n p ≡ within 1 most_threads s at → next m q ≡ within 1 most_addresses s p → Counts n m
+counts_in s at n p m q e f =
+    let a = (gone (forward_within {s = s} 1 most_threads) at n p (sym e)).holds in
+    let b = (gone (forward_within {s = s} 1 most_addresses) p m q (sym f)).holds in
+    record { threads_least = leb-true 1 n a.1; threads_most = a.0; addresses_least = leb-true 1 m b.1; addresses_most = b.0 }
 
 -- initial values and events
 module _ (s : List ℕ) (at edition n m : ℕ) where

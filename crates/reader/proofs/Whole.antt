@@ -19,8 +19,8 @@ use Rattle.case.proofs.Links.{goods_of}
 use Rattle.case.proofs.Pad.{field_past}
 use Rattle.case.proofs.HeldBack.{in_fields}
 use Rattle.case.specs.Stores.{store_at}
-use Rattle.reader.specs.Answers.{Events, Links, Counts, model_head, Counted, ListingStored, RestStored, Read, ReadingOf, ReadingFrom, counted_from, part_of}
-use Rattle.reader.specs.declared.Head as code
+use Rattle.reader.specs.Answers.{Events, Links, model_head, Counted, ListingStored, RestStored, Read, ReadingOf, ReadingFrom, counted_from, part_of}
+use Rattle.reader.specs.declared.front.Head as code
 use Rattle.reader.specs.declared.Reading.{Reading}
 use Rattle.reader.specs.declared.NamePart.{NamePart}
 use Rattle.reader.proofs.Forward.{AtEnd, Outcome, gone, forward_head, forward_listing, forward_dependencies, forward_rest, forward_case}
@@ -58,9 +58,6 @@ no_head s at x p e = refused_from at _ x p (rw (← e))
 
 -- behind the head
 module _ (s : List ℕ) (start : ℕ) (hd : code.Head) (at : ℕ) (e₁ : head s start ≡ next (model_head hd) at) where
-  pub head-counts : Counts hd.threads hd.addresses
-  head-counts = (gone forward_head start (model_head hd) at e₁).holds
-
   pub no_listing : (x p : ℕ) → listing hd.edition hd.threads hd.addresses s at ≡ stop x p → counted_from start (case s start) ≡ stop x p
   unfolding case
   no_listing x p g = refused_from start _ x p (rw (e₁, g))

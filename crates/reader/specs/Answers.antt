@@ -10,7 +10,8 @@ use Rattle.model.specs.Answers.{Part}
 use Rattle.case.specs.Held.{held, pad, rows_of}
 use Rattle.reader.specs.declared.Event as an_event
 use Rattle.reader.specs.declared.Pair as a_pair
-use Rattle.reader.specs.declared.Head as a_head
+use Rattle.reader.specs.declared.front.Head as a_head
+pub use Rattle.reader.specs.Counts.{Counts}
 use Rattle.reader.specs.declared.Reading.{Reading}
 use Rattle.reader.specs.declared.NamePart.{NamePart}
 
@@ -124,12 +125,6 @@ pub record Links (classes froms tos : List ℕ) (ds : List Dependency) : Type 0 
   pub class : classes ≡ pad most_dependencies (map (λ d. d.class) ds)
   pub from : froms ≡ pad most_dependencies (map (λ d. d.from) ds)
   pub to : tos ≡ pad most_dependencies (map (λ d. d.to) ds)
-
-pub record Counts (n m : ℕ) : Type 0 where
-  pub threads_least : 1 ≤ n
-  pub threads_most : n ≤ most_threads
-  pub addresses_least : 1 ≤ m
-  pub addresses_most : m ≤ most_addresses
 
 pub record ListingStored (initial ks ts as' vs : List ℕ) (l : Listing) : Type 0 where
   pub initials : Padded most_addresses initial l.initials

@@ -9,9 +9,12 @@ ghost use Rattle.model.specs.Record.{event, rising_dependency, rising_dependenci
 ghost use Rattle.model.specs.Answers.{name as name_of, name_part};
 ghost use Rattle.case.specs.Held.{good_at, link_of};
 ghost use Rattle.case.specs.Stores.{store_at};
-ghost use Rattle.reader.specs.Answers.{model_event, model_pair, model_head, Stores, StoresCounted, Events, Links, pairs, Ran, at_once, follows_at, Rose, Padded, Tabled, Counts, ListingStored, RestStored, ReadingOf, ReadingFrom, part_of};
+ghost use Rattle.reader.specs.Answers.{model_event, model_pair, model_head, Stores, StoresCounted, Events, Links, pairs, Ran, at_once, follows_at, Rose, Padded, Tabled, ListingStored, RestStored, ReadingOf, ReadingFrom, part_of};
+
+mod front;
 
 use case::{Case, Link};
+use front::Head;
 use number::{Fault, Refusal};
 
 // A record's case and its length.
@@ -52,18 +55,9 @@ pub struct Pair {
     pub b: usize,
 }
 
-// The edition, and how many threads and addresses.
-#[derive(Clone, Copy)]
-pub struct Head {
-    pub edition: usize,
-    pub threads: usize,
-    pub addresses: usize,
-}
-
 // Reads an event of a record with the head; gives it, and where the next one starts.
 #[tactic(auto, unfolding(model::specs::Record::event, number::specs::Reader::up_to, number::specs::Reader::below))]
 fn read_event(bytes: &[u8], at: usize, head: Head) -> Result<(Event, usize), Refusal>
-    requires { Counts head.threads head.addresses }
     ensures { outcome_by model_event result ≡ event head.edition head.threads head.addresses bytes.now at }
 {
     let most_kind = u32::from(case::most_kind(head.edition));
@@ -103,7 +97,6 @@ fn read_events(
     targets: &mut [u8; Case::MOST_EVENTS],
     values: &mut [u32; Case::MOST_EVENTS],
 ) -> Result<usize, Refusal>
-    requires counts { Counts head.threads head.addresses }
     requires count_le_most_events { count ≤ most_events }
     requires events { Events kinds.old owners.old targets.old values.old [] }
     ensures { Stores (Events kinds.new owners.new targets.new values.new) (times count (event head.edition head.threads head.addresses) bytes.now at) result }
@@ -542,7 +535,6 @@ fn read_listing(
     targets: &mut [u8; Case::MOST_EVENTS],
     values: &mut [u32; Case::MOST_EVENTS],
 ) -> Result<(usize, usize), Refusal>
-    requires counts { Counts head.threads head.addresses }
     requires initial_value { initial.old ≡ replicate most_addresses 0 }
     requires events { Events kinds.old owners.old targets.old values.old [] }
     ensures { StoresCounted (λ l. l.k) (ListingStored initial.new kinds.new owners.new targets.new values.new) (listing_of head.edition head.threads head.addresses bytes.now at) result }
@@ -570,7 +562,6 @@ fn read_rest(
     rows: &mut [u64],
     name: &mut [u8; Case::MOST_NAME],
 ) -> Result<(usize, usize), Refusal>
-    requires counts { Counts head.threads head.addresses }
     requires k_le_most_events { k ≤ most_events }
     requires writes_value { writes.old ≡ replicate (most_addresses * most_events) 0 }
     requires rows_value { rows.old ≡ replicate (most_threads * most_events) 0 }

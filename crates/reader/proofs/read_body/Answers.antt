@@ -2,12 +2,8 @@ use Rattle.case.specs.Held.{empty_case}
 use Rattle.reader.specs.Answers.{ReadingFrom}
 use Rattle.reader.proofs.Filling.{exit}
 use Rattle.reader.proofs.Links.{no_links_yet}
-use Rattle.reader.proofs.Whole.{head-counts, no_events, no_listing, no_links, no_rest, ends_behind, whole}
+use Rattle.reader.proofs.Whole.{no_events, no_listing, no_links, no_rest, ends_behind, whole}
 use Rattle.reader.proofs.read_body.Goals as goal
-
-pub read_listing-requires-clause-counts : goal.read_listing-requires-clause-counts
-read_listing-requires-clause-counts c =
-    head-counts _ _ _ _ c.requires
 
 pub read_listing-requires-clause-initial_value : goal.read_listing-requires-clause-initial_value
 unfolding empty_case
@@ -21,7 +17,7 @@ read_listing-requires-clause-events c =
 
 pub returns-in_err-events : goal.returns-in_err-events
 returns-in_err-events c =
-    exit (ReadingFrom _ _) _ _ c.from_residual.ensures (no_listing _ _ _ _ c.requires _ _ c.in_err-events.ensures)
+    exit (ReadingFrom _ _) _ _ c.from_residual.ensures (no_listing _ _ c.args.head _ c.requires _ _ c.in_err-events.ensures)
 
 pub read_dependencies-requires-clause-links : goal.read_dependencies-requires-clause-links
 unfolding empty_case
@@ -30,11 +26,7 @@ read_dependencies-requires-clause-links c =
 
 pub returns-in_err-dependencies : goal.returns-in_err-dependencies
 returns-in_err-dependencies c =
-    exit (ReadingFrom _ _) _ _ c.from_residual-in_err-dependencies.ensures (no_links _ _ _ _ c.requires _ _ _ _ _ _ _ c.in_ok-events.ensures _ _ c.in_err-dependencies.ensures)
-
-pub read_rest-requires-clause-counts : goal.read_rest-requires-clause-counts
-read_rest-requires-clause-counts c =
-    head-counts _ _ _ _ c.requires
+    exit (ReadingFrom _ _) _ _ c.from_residual-in_err-dependencies.ensures (no_links _ _ c.args.head _ c.requires _ _ _ _ _ _ _ c.in_ok-events.ensures _ _ c.in_err-dependencies.ensures)
 
 pub read_rest-requires-clause-writes_value : goal.read_rest-requires-clause-writes_value
 unfolding empty_case
@@ -53,12 +45,12 @@ read_rest-requires-clause-name_value c =
 
 pub returns-in_err-namelength : goal.returns-in_err-namelength
 returns-in_err-namelength c =
-    exit (ReadingFrom _ _) _ _ c.from_residual-in_err-namelength.ensures (no_rest _ _ _ _ c.requires _ _ _ _ _ _ _ c.in_ok-events.ensures _ _ _ _ _ c.in_ok-dependencies.ensures _ _ c.in_err-namelength.ensures)
+    exit (ReadingFrom _ _) _ _ c.from_residual-in_err-namelength.ensures (no_rest _ _ c.args.head _ c.requires _ _ _ _ _ _ _ c.in_ok-events.ensures _ _ _ _ _ c.in_ok-dependencies.ensures _ _ c.in_err-namelength.ensures)
 
 pub overflow_sub-length : goal.overflow_sub-length
 overflow_sub-length c =
-    ends_behind _ _ _ _ c.requires _ _ _ _ _ _ _ c.in_ok-events.ensures _ _ _ _ _ c.in_ok-dependencies.ensures _ _ _ _ _ c.in_ok-namelength.ensures
+    ends_behind _ _ c.args.head _ c.requires _ _ _ _ _ _ _ c.in_ok-events.ensures _ _ _ _ _ c.in_ok-dependencies.ensures _ _ _ _ _ c.in_ok-namelength.ensures
 
 pub returns : goal.returns
 returns c =
-    whole _ _ _ _ c.requires _ _ _ _ _ _ _ c.in_ok-events.ensures _ _ _ _ _ c.in_ok-dependencies.ensures _ _ _ _ _ c.in_ok-namelength.ensures
+    whole _ _ c.args.head _ c.requires _ _ _ _ _ _ _ c.in_ok-events.ensures _ _ _ _ _ c.in_ok-dependencies.ensures _ _ _ _ _ c.in_ok-namelength.ensures

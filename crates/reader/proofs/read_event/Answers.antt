@@ -8,8 +8,8 @@ overflow_cast-kind c =
 
 pub overflow_cast-thread : goal.overflow_cast-thread
 overflow_cast-thread c =
-    fits_byte _ _ _ _ _ c.in_ok-thread.ensures (few-threads _ _ c.requires)
+    fits_byte _ _ _ _ _ c.in_ok-thread.ensures (few-threads _ _ c.args.head.in_range)
 
 pub overflow_cast-event : goal.overflow_cast-event
 overflow_cast-event c =
-    fits_byte _ _ _ _ _ c.in_ok-address.ensures (few-addresses _ c.requires.addresses_most)
+    fits_byte _ _ _ _ _ c.in_ok-address.ensures (few-addresses _ c.args.head.in_range.addresses_most)
