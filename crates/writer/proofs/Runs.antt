@@ -1,13 +1,14 @@
 -- Laws of `run` and `sum`, and the bytes of some stages.
 -- Assumes nothing.
-use Prim.Native.Nat.{ℕ, zero, suc, ◌+◌, ◌*◌, ◌^◌, ◌≤◌, ◌<◌}
+use Prim.Native.Nat.{ℕ, zero, suc, ◌+◌, ◌-◌, ◌*◌, ◌^◌, ◌≤◌, ◌<◌}
 use native.Mathlib.Nat.{add-mul, one-mul, le_trans, lt_of_le_of_lt, le_antisymm, mul-le-mul_right, mul-le-mul_left}
 use native.Mathlib.Omega.{arith}
 use native.Mathlib.Numerals.{add-one}
 use mathlib.Core.Path.{◌≡◌, refl, sym, ap, ap₂, ◌∙◌}
 use mathlib.Core.Bool.{Bool, true, false, cond}
 use mathlib.Core.List.{List, [], ◌∷◌, ◌++◌, append-nil, append_assoc}
-use lib.ListN.{length, take, get_or, length-take}
+use lib.ListN.{length, take, drop, get_or, length-take, length-drop}
+use lib.Seq.{length-take-le, get_or-take, get_or-drop}
 use Rattle.std.proofs.lemmas.List.{take_more}
 use mir.Syntax.{w64}
 use mir.Val.{Fits}
@@ -59,6 +60,33 @@ module _ (f : ℕ → ℕ) (n total i : ℕ) (s : Summed f n total i) (l : i < n
   pub sum_fits : (room : ℕ) → n ≤ room → room * room < 2 ^ 64 → Fits w64 (total + x)
   sum_fits room r g =
       record { fits = lt_of_le_of_lt (le_trans (one_summed f n total i s l x e b).few (le_trans (mul-le-mul_right n (le_trans (omega arith) r)) (mul-le-mul_left room r))) g }
+
+-- ---- the first n numbers of a list, and n from a place on, by index
+module _ (xs : List ℕ) (n i : ℕ) where
+  pub front_within : n ≤ length xs → i < length (take n xs) → i < n
+  front_within h l = rw (length-take-le n xs h) at l
+
+  pub front_past : n ≤ length xs → length (take n xs) ≤ i → n ≤ i
+  front_past h l = rw (length-take-le n xs h) at l
+
+  pub front_read : i < n → get_or xs i 0 ≡ get_or (take n xs) i 0
+  front_read l = sym (get_or-take n xs i 0 l)
+
+module _ (xs : List ℕ) (from n i : ℕ) where
+  as-many : from + n - from ≡ n
+  as-many = omega arith
+
+  left-over : from + n ≤ length xs → n ≤ length (drop from xs)
+  left-over h = simp length-drop (omega arith)
+
+  pub part_within : from + n ≤ length xs → i < length (take (from + n - from) (drop from xs)) → i < n
+  part_within h l = front_within (drop from xs) n i (left-over h) (rw as-many at l)
+
+  pub part_past : from + n ≤ length xs → length (take (from + n - from) (drop from xs)) ≤ i → n ≤ i
+  part_past h l = front_past (drop from xs) n i (left-over h) (rw as-many at l)
+
+  pub part_read : i < n → get_or xs (from + i) 0 ≡ get_or (take (from + n - from) (drop from xs)) i 0
+  part_read l = rw as-many (sym (get_or-drop from xs i 0) ∙ front_read (drop from xs) n i l)
 
 -- ---- the bytes of an event, whose kind, thread and address are written as wk, wt and wa
 module _ {k t wk wt : ℕ} (a v : ℕ) (ek : wk ≡ k) (et : wt ≡ t) where

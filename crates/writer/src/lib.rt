@@ -4,9 +4,9 @@
 ghost use Rattle.std.specs.Prelude.{ℕ, List, ◌≡◌, ◌++◌, ◌+◌, ◌*◌, ◌≤◌, ◌<◌, length, get_or};
 ghost use Rattle.number.specs.Number.{encode};
 ghost use Rattle.model.specs.Limits.{most_threads, most_addresses, most_events, most_dependencies, most_name};
-ghost use Rattle.model.specs.Written.{event_bytes, dependency_bytes, record_of};
+ghost use Rattle.model.specs.Written.{record_of};
 ghost use Rattle.model.specs.Answers.{put as put_of};
-ghost use Rattle.case.specs.Held.{event_of, link, link_count, case_of};
+ghost use Rattle.case.specs.Held.{case_of};
 ghost use Rattle.case.specs.Sound.{Sound};
 ghost use Rattle.writer.specs.Stages.{run, initial_at, event_at, listing_bytes, link_at, links_bytes, entry_at, writes_of, bit_bytes, row_at, pairs, order_at, name_bytes, rest_bytes, most_number, most_two, most_three, most_event, most_listing, most_links, most_entries, most_row, most_order, most_rest, most_record};
 ghost use Rattle.writer.specs.Sinks.{SinkLaws, may_count, Counted, may_write, Wrote};
@@ -128,23 +128,31 @@ fn put_three<S: Sink>(sink: &mut S, a: u32, b: u32, d: u32)
     put_two(sink, b, d);
 }
 
-// Kind, thread, and unless the kind is bare, address and value.
-fn put_event<S: Sink>(sink: &mut S, kind: u8, thread: u8, address: u8, value: u32)
-    requires { S.may sink.old most_event (event_bytes (event_of kind thread address value)) }
-    ensures { S.took sink.old most_event (event_bytes (event_of kind thread address value)) sink.new }
+// Kind and thread of event e, and unless the kind is bare, address and value.
+fn put_event<S: Sink>(sink: &mut S, c: &Case, e: usize)
+    requires within { e < most_events }
+    requires may { S.may sink.old most_event (event_at c.now.kind c.now.thread c.now.address c.now.value e) }
+    ensures { S.took sink.old most_event (event_at c.now.kind c.now.thread c.now.address c.now.value e) sink.new }
 {
-    put_two(sink, u32::from(kind), u32::from(thread));
+    let kind = c.kind[e];
+    put_two(sink, u32::from(kind), u32::from(c.thread[e]));
     if !case::bare(kind) {
-        put_two(sink, u32::from(address), value);
+        put_two(sink, u32::from(c.address[e]), c.value[e]);
     }
 }
 
-// A dependency's class and the events that it goes from and to.
-fn put_link<S: Sink>(sink: &mut S, class: u8, from: u8, to: u8)
-    requires { S.may sink.old most_three (dependency_bytes (link class from to)) }
-    ensures { S.took sink.old most_three (dependency_bytes (link class from to)) sink.new }
+// Class of dependency j and the events that it goes from and to.
+fn put_link<S: Sink>(sink: &mut S, c: &Case, j: usize)
+    requires within { j < most_dependencies }
+    requires may { S.may sink.old most_three (link_at c.now.class c.now.from c.now.to j) }
+    ensures { S.took sink.old most_three (link_at c.now.class c.now.from c.now.to j) sink.new }
 {
-    put_three(sink, u32::from(class), u32::from(from), u32::from(to));
+    put_three(
+        sink,
+        u32::from(c.class[j]),
+        u32::from(c.from[j]),
+        u32::from(c.to[j]),
+    );
 }
 
 // The pair a, b if it stands in a's row.
@@ -164,8 +172,8 @@ fn put_initials<S: Sink>(sink: &mut S, c: &Case)
     requires may { S.may sink.old (most_addresses * most_number) (run (initial_at c.now.initial) c.now.addresses) }
     ensures { S.took sink.old (most_addresses * most_number) (run (initial_at c.now.initial) c.now.addresses) sink.new }
 {
-    for x in 0..c.addresses {
-        sink.number(c.initial[x]);
+    for &v in &c.initial[..c.addresses] {
+        sink.number(v);
     }
 }
 
@@ -176,7 +184,7 @@ fn put_events<S: Sink>(sink: &mut S, c: &Case)
     ensures { S.took sink.old (most_events * most_event) (run (event_at c.now.kind c.now.thread c.now.address c.now.value) c.now.events) sink.new }
 {
     for e in 0..c.events {
-        put_event(sink, c.kind[e], c.thread[e], c.address[e], c.value[e]);
+        put_event(sink, c, e);
     }
 }
 
@@ -198,7 +206,7 @@ fn put_links<S: Sink>(sink: &mut S, c: &Case, i: usize)
     ensures { S.took sink.old (most_dependencies * most_three) (run (link_at c.now.class c.now.from c.now.to) i) sink.new }
 {
     for j in 0..i {
-        put_link(sink, c.class[j], c.from[j], c.to[j]);
+        put_link(sink, c, j);
     }
 }
 
@@ -220,8 +228,9 @@ fn put_entries<S: Sink>(sink: &mut S, c: &Case, x: usize, n: usize)
     requires may { S.may sink.old most_entries (run (entry_at c.now.writes x) n) }
     ensures { S.took sink.old most_entries (run (entry_at c.now.writes x) n) sink.new }
 {
-    for i in 0..n {
-        sink.number(u32::from(c.writes[x * Case::MOST_EVENTS + i]));
+    let start = x * Case::MOST_EVENTS;
+    for &e in &c.writes[start..start + n] {
+        sink.number(u32::from(e));
     }
 }
 
