@@ -12,9 +12,11 @@ ghost use Rattle.case.specs.Stores.{store_at};
 ghost use Rattle.reader.specs.Answers.{model_event, model_pair, model_head, Stores, StoresCounted, Events, Links, pairs, Ran, at_once, follows_at, Rose, Padded, Tabled, ListingStored, RestStored, ReadingOf, ReadingFrom, part_of};
 
 mod front;
+mod listing;
 
 use case::{Case, Link};
 use front::Head;
+use listing::Listed;
 use number::{Fault, Refusal};
 
 // A record's case and its length.
@@ -113,28 +115,25 @@ fn read_events(
     Ok(place)
 }
 
-// Reads a dependency among k events, of rank least or above.
+// Reads a dependency among the events, of rank least or above; gives it, and where the next one starts.
 #[tactic(auto, unfolding(model::specs::Record::rising_dependency, model::specs::Record::dependency, number::specs::Reader::unless, number::specs::Reader::up_to))]
 fn read_link(
     bytes: &[u8],
     at: usize,
-    k: usize,
     least: usize,
-    kinds: &[u8; Case::MOST_EVENTS],
-    owners: &[u8; Case::MOST_EVENTS],
+    events: Listed,
 ) -> Result<(Link, usize), Refusal>
-    requires { k ≤ most_events }
-    ensures { outcome_by link_of result ≡ rising_dependency k least (good_at k kinds.now owners.now) bytes.now at }
+    ensures { outcome_by link_of result ≡ rising_dependency events.entry.count least (good_at events.entry.count events.entry.kinds.now events.entry.owners.now) bytes.now at }
 {
     let (class, after_class) = number::read_number(bytes, at, Case::MOST_CLASS as u32)?;
-    let (from, after_from) = number::read_under(bytes, after_class, k as u32)?;
-    let (to, after_to) = number::read_under(bytes, after_from, k as u32)?;
+    let (from, after_from) = number::read_under(bytes, after_class, events.count as u32)?;
+    let (to, after_to) = number::read_under(bytes, after_from, events.count as u32)?;
     let link = Link {
         class: class as usize,
         from: from as usize,
         to: to as usize,
     };
-    if link.follows(kinds, owners, k, least) {
+    if link.follows(events.kinds, events.owners, events.count, least) {
         return Ok((link, after_to));
     }
     Err(Fault::Turn.at(at))
@@ -144,27 +143,24 @@ fn read_link(
 fn read_links(
     bytes: &[u8],
     at: usize,
-    k: usize,
+    events: Listed,
     count: usize,
-    kinds: &[u8; Case::MOST_EVENTS],
-    owners: &[u8; Case::MOST_EVENTS],
     classes: &mut [u8; Case::MOST_DEPENDENCIES],
     froms: &mut [u8; Case::MOST_DEPENDENCIES],
     tos: &mut [u8; Case::MOST_DEPENDENCIES],
 ) -> Result<usize, Refusal>
-    requires k_le_most_events { k ≤ most_events }
     requires count_le_most_dependencies { count ≤ most_dependencies }
     requires links { Links classes.old froms.old tos.old [] }
-    ensures { Stores (Links classes.new froms.new tos.new) (rising_dependencies k (good_at k kinds.now owners.now) count bytes.now at) result }
+    ensures { Stores (Links classes.new froms.new tos.new) (rising_dependencies events.entry.count (good_at events.entry.count events.entry.kinds.now events.entry.owners.now) count bytes.now at) result }
 {
     let mut place = at;
     let mut least: usize = 0;
     for i in 0..count {
-        let (link, next) = read_link(bytes, place, k, least, kinds, owners)?;
+        let (link, next) = read_link(bytes, place, least, events)?;
         classes[i] = link.class as u8;
         froms[i] = link.from as u8;
         tos[i] = link.to as u8;
-        least = link.rank(k) + 1;
+        least = link.rank(events.count) + 1;
         place = next;
     }
     Ok(place)
@@ -175,33 +171,20 @@ fn read_dependencies(
     bytes: &[u8],
     at: usize,
     edition: usize,
-    k: usize,
-    kinds: &[u8; Case::MOST_EVENTS],
-    owners: &[u8; Case::MOST_EVENTS],
+    events: Listed,
     classes: &mut [u8; Case::MOST_DEPENDENCIES],
     froms: &mut [u8; Case::MOST_DEPENDENCIES],
     tos: &mut [u8; Case::MOST_DEPENDENCIES],
 ) -> Result<(usize, usize), Refusal>
-    requires k_le_most_events { k ≤ most_events }
-    requires links { Links classes.old froms.old tos.old [] }
-    ensures { StoresCounted (λ ds. length ds) (Links classes.new froms.new tos.new) (dependencies_of edition k (good_at k kinds.now owners.now) bytes.now at) result }
+    requires { Links classes.old froms.old tos.old [] }
+    ensures { StoresCounted (λ ds. length ds) (Links classes.new froms.new tos.new) (dependencies_of edition events.entry.count (good_at events.entry.count events.entry.kinds.now events.entry.owners.now) bytes.now at) result }
 {
     if !case::is_second(edition) {
         return Ok((0, at));
     }
     let (count, after_count) = number::read_number(bytes, at, Case::MOST_DEPENDENCIES as u32)?;
     let count = count as usize;
-    let end = read_links(
-        bytes,
-        after_count,
-        k,
-        count,
-        kinds,
-        owners,
-        classes,
-        froms,
-        tos,
-    )?;
+    let end = read_links(bytes, after_count, events, count, classes, froms, tos)?;
     Ok((count, end))
 }
 
@@ -398,23 +381,21 @@ pub fn read_initials(
     Ok(place)
 }
 
-// Reads the number of a store to x that is not listed yet.
+// Reads the number of a store to x that is not among those before it; gives it, and where the next one starts.
 #[tactic(auto, unfolding(model::specs::Record::unlisted, number::specs::Reader::unless, number::specs::Reader::up_to, number::specs::Reader::below))]
 fn read_store(
     bytes: &[u8],
     at: usize,
-    k: usize,
     x: usize,
-    kinds: &[u8; Case::MOST_EVENTS],
-    targets: &[u8; Case::MOST_EVENTS],
-    listed: u64,
+    events: Listed,
+    before: u64,
 ) -> Result<(usize, usize), Refusal>
-    requires { (0 < k) × (k ≤ most_events) }
-    ensures { outcome result ≡ unlisted k (store_at kinds.now targets.now x) (bit listed) bytes.now at }
+    requires { 0 < events.count }
+    ensures { outcome result ≡ unlisted events.entry.count (store_at events.entry.kinds.now events.entry.targets.now x) (bit before) bytes.now at }
 {
-    let (number, next) = number::read_number(bytes, at, (k - 1) as u32)?;
+    let (number, next) = number::read_number(bytes, at, (events.count - 1) as u32)?;
     let e = number as usize;
-    if case::store_at(kinds, targets, x, e) && !bits::has(listed, e) {
+    if case::store_at(events.kinds, events.targets, x, e) && !bits::has(before, e) {
         return Ok((e, next));
     }
     Err(Fault::Turn.at(at))
@@ -424,23 +405,20 @@ fn read_store(
 fn read_write_order(
     bytes: &[u8],
     at: usize,
-    k: usize,
     x: usize,
-    kinds: &[u8; Case::MOST_EVENTS],
-    targets: &[u8; Case::MOST_EVENTS],
+    events: Listed,
     writes: &mut [u8],
 ) -> Result<usize, Refusal>
-    requires k_le_most_events { k ≤ most_events }
-    requires writes_value { writes.old ≡ replicate most_events 0 }
-    ensures { Stores (Padded most_events writes.new) (write_order k (store_at kinds.now targets.now x) bytes.now at) result }
+    requires { writes.old ≡ replicate most_events 0 }
+    ensures { Stores (Padded most_events writes.new) (write_order events.entry.count (store_at events.entry.kinds.now events.entry.targets.now x) bytes.now at) result }
 {
-    let count = case::count_stores(kinds, targets, k, x);
+    let count = case::count_stores(events.kinds, events.targets, events.count, x);
     let mut place = at;
-    let mut listed: u64 = 0;
+    let mut before: u64 = 0;
     for j in 0..count {
-        let (e, next) = read_store(bytes, place, k, x, kinds, targets, listed)?;
+        let (e, next) = read_store(bytes, place, x, events, before)?;
         writes[j] = e as u8;
-        listed = bits::with(listed, e);
+        before = bits::with(before, e);
         place = next;
     }
     Ok(place)
@@ -451,20 +429,18 @@ fn read_writes(
     bytes: &[u8],
     at: usize,
     addresses: usize,
-    k: usize,
-    kinds: &[u8; Case::MOST_EVENTS],
-    targets: &[u8; Case::MOST_EVENTS],
+    events: Listed,
     writes: &mut [u8],
 ) -> Result<usize, Refusal>
-    requires addresses_le_most_addresses { (addresses ≤ most_addresses) × (k ≤ most_events) }
+    requires addresses_le_most_addresses { addresses ≤ most_addresses }
     requires writes_value { writes.old ≡ replicate (most_addresses * most_events) 0 }
-    ensures { Stores (Tabled (most_addresses * most_events) writes.new) (turns addresses (next_write_order k (store_at kinds.now targets.now)) [] bytes.now at) result }
+    ensures { Stores (Tabled (most_addresses * most_events) writes.new) (turns addresses (next_write_order events.entry.count (store_at events.entry.kinds.now events.entry.targets.now)) [] bytes.now at) result }
 {
     let mut place = at;
     for x in 0..addresses {
         let start = x * Case::MOST_EVENTS;
         let part = &mut writes[start..start + Case::MOST_EVENTS];
-        place = read_write_order(bytes, place, k, x, kinds, targets, part)?;
+        place = read_write_order(bytes, place, x, events, part)?;
     }
     Ok(place)
 }
@@ -555,21 +531,18 @@ fn read_rest(
     bytes: &[u8],
     at: usize,
     head: Head,
-    k: usize,
-    kinds: &[u8; Case::MOST_EVENTS],
-    targets: &[u8; Case::MOST_EVENTS],
+    events: Listed,
     writes: &mut [u8],
     rows: &mut [u64],
     name: &mut [u8; Case::MOST_NAME],
 ) -> Result<(usize, usize), Refusal>
-    requires k_le_most_events { k ≤ most_events }
     requires writes_value { writes.old ≡ replicate (most_addresses * most_events) 0 }
     requires rows_value { rows.old ≡ replicate (most_threads * most_events) 0 }
     requires name_value { name.old ≡ replicate most_name 0 }
-    ensures { StoresCounted (λ t. length t.name) (RestStored writes.new rows.new name.new) (rest_of head.threads head.addresses k (store_at kinds.now targets.now) bytes.now at) result }
+    ensures { StoresCounted (λ t. length t.name) (RestStored writes.new rows.new name.new) (rest_of head.threads head.addresses events.entry.count (store_at events.entry.kinds.now events.entry.targets.now) bytes.now at) result }
 {
-    let after_writes = read_writes(bytes, at, head.addresses, k, kinds, targets, writes)?;
-    let after_orders = read_orders(bytes, after_writes, head.threads, k, rows)?;
+    let after_writes = read_writes(bytes, at, head.addresses, events, writes)?;
+    let after_orders = read_orders(bytes, after_writes, head.threads, events.count, rows)?;
     let (count, after_count) = number::read_number(bytes, after_orders, Case::MOST_NAME as u32)?;
     let i = count as usize;
     let end = read_name(bytes, after_count, i, name)?;
@@ -582,7 +555,7 @@ fn read_body(bytes: &[u8], start: usize, head: Head, at: usize) -> Result<Readin
     ensures { ReadingFrom start (case_at bytes.now start) result }
 {
     let mut case = Case::empty();
-    let (events, after_events) = read_listing(
+    let (count, after_events) = read_listing(
         bytes,
         at,
         head,
@@ -592,13 +565,17 @@ fn read_body(bytes: &[u8], start: usize, head: Head, at: usize) -> Result<Readin
         &mut case.address,
         &mut case.value,
     )?;
+    let events = Listed {
+        count,
+        kinds: &case.kind,
+        owners: &case.thread,
+        targets: &case.address,
+    };
     let (dependencies, after_links) = read_dependencies(
         bytes,
         after_events,
         head.edition,
         events,
-        &case.kind,
-        &case.thread,
         &mut case.class,
         &mut case.from,
         &mut case.to,
@@ -608,8 +585,6 @@ fn read_body(bytes: &[u8], start: usize, head: Head, at: usize) -> Result<Readin
         after_links,
         head,
         events,
-        &case.kind,
-        &case.address,
         &mut case.writes,
         &mut case.rows,
         &mut case.name,
@@ -617,7 +592,7 @@ fn read_body(bytes: &[u8], start: usize, head: Head, at: usize) -> Result<Readin
     case.edition = head.edition;
     case.threads = head.threads;
     case.addresses = head.addresses;
-    case.events = events;
+    case.events = count;
     case.dependencies = dependencies;
     case.namelength = namelength;
     let length = end - start;

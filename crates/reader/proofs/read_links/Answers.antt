@@ -18,11 +18,11 @@ overflow_cast-classes c =
 
 pub overflow_cast-froms : goal.overflow_cast-froms
 overflow_cast-froms c =
-    from_byte _ _ _ _ _ _ _ _ _ _ _ c.loop-i.invariant (omega arith) _ _ c.in_ok-link.ensures c.requires.k_le_most_events
+    from_byte _ _ _ _ _ _ _ _ _ _ _ c.loop-i.invariant (omega arith) _ _ c.in_ok-link.ensures c.args.events.few
 
 pub overflow_cast-tos : goal.overflow_cast-tos
 overflow_cast-tos c =
-    to_byte _ _ _ _ _ _ _ _ _ _ _ c.loop-i.invariant (omega arith) _ _ c.in_ok-link.ensures c.requires.k_le_most_events
+    to_byte _ _ _ _ _ _ _ _ _ _ _ c.loop-i.invariant (omega arith) _ _ c.in_ok-link.ensures c.args.events.few
 
 pub rank-least-requires-clause-among : goal.rank-least-requires-clause-among
 rank-least-requires-clause-among c =
@@ -30,7 +30,7 @@ rank-least-requires-clause-among c =
 
 pub overflow_add-least : goal.overflow_add-least
 overflow_add-least c =
-    rank-fits _ _ _ _ _ _ _ _ _ _ _ c.loop-i.invariant (omega arith) _ _ c.in_ok-link.ensures c.requires.k_le_most_events _ c.rank-least.ensures
+    rank-fits _ _ _ _ _ _ _ _ _ _ _ c.loop-i.invariant (omega arith) _ _ c.in_ok-link.ensures c.args.events.few _ c.rank-least.ensures
 
 pub loop-i-preserved : goal.loop-i-preserved
 loop-i-preserved c =

@@ -10,7 +10,7 @@ loop-j-init c =
 
 pub read_store-requires : goal.read_store-requires
 read_store-requires c =
-    (writing_some _ _ _ _ _ _ _ _ _ _ _ _ c.loop-j.invariant (omega arith), c.requires.k_le_most_events)
+    writing_some _ _ _ _ _ _ _ _ _ _ _ _ c.loop-j.invariant (omega arith)
 
 pub returns-in_err-e : goal.returns-in_err-e
 returns-in_err-e c =
@@ -24,13 +24,13 @@ pub bounds-writes-j : goal.bounds-writes-j
 bounds-writes-j c =
     writing_place _ _ _ _ _ _ _ _ _ _ _ _ c.loop-j.invariant (omega arith)
 
-pub with-listed-requires : goal.with-listed-requires
-with-listed-requires c =
+pub with-before-requires : goal.with-before-requires
+with-before-requires c =
     writing_bit _ _ _ _ _ _ _ _ _ _ _ _ c.loop-j.invariant (omega arith) _ _ c.in_ok-e.ensures
 
 pub loop-j-preserved : goal.loop-j-preserved
 loop-j-preserved c =
-    writing_next _ _ _ _ _ _ _ _ _ _ _ _ c.loop-j.invariant (omega arith) _ _ c.in_ok-e.ensures _ c.with-listed.ensures
+    writing_next _ _ _ _ _ _ _ _ _ _ _ _ c.loop-j.invariant (omega arith) _ _ c.in_ok-e.ensures _ c.with-before.ensures
 
 pub returns : goal.returns
 returns c =

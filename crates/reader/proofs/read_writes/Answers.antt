@@ -9,8 +9,8 @@ pub loop-x-init : goal.loop-x-init
 loop-x-init c =
     search table-begun
 
-pub read_write_order-requires-clause-writes_value : goal.read_write_order-requires-clause-writes_value
-read_write_order-requires-clause-writes_value c =
+pub read_write_order-requires : goal.read_write_order-requires
+read_write_order-requires c =
     search (table-room, step-size)
 
 pub returns-in_err-place : goal.returns-in_err-place
@@ -19,7 +19,7 @@ returns-in_err-place c =
 
 pub loop-x-preserved : goal.loop-x-preserved
 loop-x-preserved c =
-    table-next _ _ _ _ _ _ _ _ _ c.loop-x.invariant (omega arith) _ _ c.in_ok-place.ensures c.requires.addresses_le_most_addresses.0 _ (step-size _)
+    table-next _ _ _ _ _ _ _ _ _ c.loop-x.invariant (omega arith) _ _ c.in_ok-place.ensures c.requires.addresses_le_most_addresses _ (step-size _)
 
 pub returns : goal.returns
 returns c =
