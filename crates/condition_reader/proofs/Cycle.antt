@@ -8,17 +8,17 @@ use mathlib.Core.Bool.{Bool, true, false, ◌&&◌, ◌||◌, not}
 use mathlib.Core.List.{List}
 use lib.ListN.{length}
 use borrow.Author.Tests.{eq-eqb, ne_eqb, le-ltb, lt-ltb}
+use Rattle.std.specs.Result.{IsErr, IsErrAnd}
+use Rattle.std.proofs.Common.{Result}
+use Rattle.condition_reader.specs.declared.TextRefusal.{TextRefusal}
 use Rattle.number.specs.Reader.{Out, stop, next, Reader, give, onward}
 use Rattle.condition_model.specs.Grammar.{Condition, Condition.a_term, Condition.or_else, Term.a_factor, Term.and_also, Factor, Factor.bracketed, Factor.negation, most_text, most_depth, opening, closing, slash, backslash, tilde}
-use Rattle.condition_model.specs.Reader.{is, byte, skipped, sign, choose, if_byte, equation_at, nested, behind_sign, closed, negated, condition_by, term_by, factor_by, end, whole_by, enough, read_text}
+use Rattle.condition_model.specs.Reader.{is, skipped, sign, choose, if_byte, equation_at, nested, behind_sign, closed, negated, condition_by, term_by, factor_by, end, whole_by, enough, read_text}
 use Rattle.condition_model.specs.Truth.{truth_c, truth_t, truth_f}
 use Rattle.condition_model.proofs.Progress.{Within, skip-within, condition-within, term_within, factor_within}
-use Rattle.condition_reader.specs.declared.ConditionRead.{ConditionRead}
-use Rattle.condition_reader.specs.declared.ConditionRead.TheVariants.{Truth, Refused}
-use Rattle.condition_reader.specs.declared.Sign.{Sign}
-use Rattle.condition_reader.specs.declared.Sign.TheVariants as the
-use Rattle.condition_reader.specs.Told.{map_out, truth_out, sign_out, value_in, held_ranges, sign_at, closed_by, Phrase, Phrase.disjunction, Phrase.conjunction, Phrase.single, truth_by, rank, ReadAs}
-use Rattle.condition_reader.proofs.Places.{byte_inside}
+use Rattle.condition_reader.specs.Told.{refused, told, map_out, value_in, held_ranges, sign_at, closed_by, Phrase, Phrase.disjunction, Phrase.conjunction, Phrase.single, truth_by, rank, ReadAs}
+use Rattle.condition_reader.proofs.Places.{stands_inside}
+use Rattle.condition_reader.proofs.Passing.{told-err}
 use Rattle.condition_reader.proofs.Signs.{sign_at_within}
 
 -- fuel that is enough is a successor
@@ -126,23 +126,22 @@ module _ (finals kinds values s : List ℕ) (n : ℕ) where
   read_within k at r h = subst (λ (o : Out Bool). Within (at + 1) (length s) o) (sym (h.same (3 * (length s - at) + rank k) (omega arith))) (truth-within k (3 * (length s - at) + rank k) at)
 
 -- behind an operand and a sign
-module _ (k : Phrase) (finals kinds values s : List ℕ) (n at : ℕ) (first : ConditionRead) (h : ReadAs k finals kinds values n s at (truth_out first))
-    (b : Bool) (p : ℕ) (e : first ≡ Truth b p) (x y : ℕ) (l : y < 256) (sign : Sign) (z : sign_out p sign ≡ sign_at x y s p) (q : ℕ) (a : sign ≡ the.Next q) where
+module _ (k : Phrase) (finals kinds values s : List ℕ) (n at : ℕ) (b : Bool) (p : ℕ) (h : ReadAs k finals kinds values n s at (next b p))
+    (x y : ℕ) (l : y < 256) (q : ℕ) (z : next true q ≡ sign_at x y s p) where
   join_on : (at < q) × (q ≤ length s)
   join_on =
-      let f : Within (at + 1) (length s) (truth_out (Truth b p)) = rw e at (read_within finals kinds values s n k at (truth_out first) h) in
-      let i : Within p (length s) (sign_out p sign) = rw z (sign_at_within s x y p l f.1) in
-      let i' : Within p (length s) (sign_out p (the.Next q)) = rw a at i in
-      (omega (arith, f.0, i'.0), i'.1)
+      let f : Within (at + 1) (length s) (next b p) = read_within finals kinds values s n k at (next b p) h in
+      let i : Within p (length s) (next true q) = subst (λ (o : Out Bool). Within p (length s) o) (sym z) (sign_at_within s x y p l f.1) in
+      (omega (arith, f.0, i.0), i.1)
 
   -- the measure of the next call
   pub join_falls : (m t : ℕ) → 3 * (length s - at) + m ≡ t → 3 * (length s - q) + m < t
   join_falls m t d = omega (arith, join_on)
 
-module _ (k : Phrase) (j : Joins k) (finals kinds values s : List ℕ) (n at : ℕ) (first : ConditionRead) (h : ReadAs (operands k) finals kinds values n s at (truth_out first)) where
+module _ (k : Phrase) (j : Joins k) (finals kinds values s : List ℕ) (n at : ℕ) (first : Out Bool) (h : ReadAs (operands k) finals kinds values n s at first) where
   step : (r : Out Bool)
       → ((g : ℕ) → 3 * (length s - at) + rank (operands k) ≤ g
-      → r ≡ joined_truth (join k) (first_byte k) (second-byte k) s (λ q. truth_by k finals kinds values g n s q) (truth_out first))
+      → r ≡ joined_truth (join k) (first_byte k) (second-byte k) s (λ q. truth_by k finals kinds values g n s q) first)
       → ReadAs k finals kinds values n s at r
   step r d = record {
     same = λ f l. above (λ f. r ≡ truth_by k finals kinds values f n s at) (3 * (length s - at) + rank (operands k))
@@ -150,20 +149,26 @@ module _ (k : Phrase) (j : Joins k) (finals kinds values s : List ℕ) (n at : �
         (omega (arith, ranks k j));
   }
 
-  pub join_refused : (x p : ℕ) → first ≡ Refused x p → ReadAs k finals kinds values n s at (truth_out first)
-  join_refused x p e = step (truth_out first) (λ g l. rw e)
+  pub join_refused : (x p : ℕ) → first ≡ stop x p → ReadAs k finals kinds values n s at (stop x p)
+  join_refused x p e = step (stop x p) (λ g l. rw e)
 
-  module _ (b : Bool) (p : ℕ) (e : first ≡ Truth b p) (sign : Sign) (z : sign_out p sign ≡ sign_at (first_byte k) (second-byte k) s p) where
-    pub join_alone : sign ≡ the.Absent → ReadAs k finals kinds values n s at (next b p)
-    join_alone a = step (next b p) (λ g l. rw (e, ← z, a))
+  module _ (b : Bool) (p : ℕ) (e : first ≡ next b p) where
+    pub join_alone : next false p ≡ sign_at (first_byte k) (second-byte k) s p → ReadAs k finals kinds values n s at (next b p)
+    join_alone z = step (next b p) (λ g l. rw (e, ← z))
 
-    pub join_broken : (x q : ℕ) → sign ≡ the.Refused x q → ReadAs k finals kinds values n s at (stop x q)
-    join_broken x q a = step (stop x q) (λ g l. rw (e, ← z, a))
+    pub join_broken : (x q : ℕ) → stop x q ≡ sign_at (first_byte k) (second-byte k) s p → ReadAs k finals kinds values n s at (stop x q)
+    join_broken x q z = step (stop x q) (λ g l. rw (e, ← z))
 
-    pub join_more : (q : ℕ) (rest o : Out Bool) → sign ≡ the.Next q → ReadAs k finals kinds values n s q rest → o ≡ map_out (join k b) rest → ReadAs k finals kinds values n s at o
-    join_more q rest o a r c =
-        let w = join_on (operands k) finals kinds values s n at first h b p e (first_byte k) (second-byte k) (second-small k) sign z q a in
-        step o (λ g l. c ∙ rw (e, ← z, a) (ap (map_out (join k b)) (r.same g (omega (arith, w, ranks k j)))))
+    pub join_more : (q : ℕ) (rest o : Out Bool) → next true q ≡ sign_at (first_byte k) (second-byte k) s p → ReadAs k finals kinds values n s q rest → o ≡ map_out (join k b) rest
+        → ReadAs k finals kinds values n s at o
+    join_more q rest o z r c =
+        let w = join_on (operands k) finals kinds values s n at b p (subst (λ (o : Out Bool). ReadAs (operands k) finals kinds values n s at o) e h) (first_byte k) (second-byte k) (second-small k) q z in
+        step o (λ g l. c ∙ rw (e, ← z) (ap (map_out (join k b)) (r.same g (omega (arith, w, ranks k j)))))
+
+-- what `?` passes on
+pub passed_on : (k : Phrase) (finals kinds values s : List ℕ) (n at : ℕ) (r : Result (Bool × ℕ) TextRefusal) (e : TextRefusal) → IsErr r × IsErrAnd r (λ x. x ≡ e)
+    → ReadAs k finals kinds values n s at (refused e) → ReadAs k finals kinds values n s at (told r)
+passed_on k finals kinds values s n at r e h g = subst (λ (o : Out Bool). ReadAs k finals kinds values n s at o) (sym (told-err r e h)) g
 
 -- ---- a factor
 
@@ -185,7 +190,7 @@ closed-truth finals loaded s (next c p) = go (sign closing s p)
     go (stop x p) = refl
     go (next u p) = refl
 
-module _ (finals kinds values s : List ℕ) (n at b : ℕ) (e : b ≡ byte s at) where
+module _ (finals kinds values s : List ℕ) (n at : ℕ) where
   factor_step : (r : Out Bool)
       → ((g : ℕ) → 3 * (length s - at) ≤ g → r ≡ map_out (truth_f (value_in finals) (value_in values))
       (if_byte tilde (nested n (λ i. negated (λ s at. factor_by g (held_ranges finals kinds) i s at)))
@@ -194,38 +199,52 @@ module _ (finals kinds values s : List ℕ) (n at b : ℕ) (e : b ≡ byte s at)
   unfolding condition_by
   factor_step r h = record { same = λ f l. above (λ f. r ≡ truth_by single finals kinds values f n s at) (3 * (length s - at)) h f l }
 
-  pub factor_equation : (o : Out Bool) → (b ≡ tilde → ⊥) → (b ≡ opening → ⊥) → o ≡ map_out (truth_f (value_in finals) (value_in values)) (equation_at (held_ranges finals kinds) s at)
+  pub factor_equation : (o : Out Bool) → is tilde s at ≡ false → is opening s at ≡ false → o ≡ map_out (truth_f (value_in finals) (value_in values)) (equation_at (held_ranges finals kinds) s at)
       → ReadAs single finals kinds values n s at o
-  factor_equation o x y c = factor_step o (λ g l. c ∙ rw (ne_eqb (byte s at) tilde (λ z. x (e ∙ z)), ne_eqb (byte s at) opening (λ z. y (e ∙ z))))
+  factor_equation o x y c = factor_step o (λ g l. c ∙ rw (x, y))
 
-  pub factor_deep_not : b ≡ tilde → n ≡ 0 → ReadAs single finals kinds values n s at (stop 22 at)
-  factor_deep_not x d = factor_step (stop 22 at) (λ g l. rw (eq-eqb (byte s at) tilde (sym e ∙ x), d))
+  pub factor_deep_not : is tilde s at ≡ true → n ≡ 0 → ReadAs single finals kinds values n s at (stop 22 at)
+  factor_deep_not x d = factor_step (stop 22 at) (λ g l. rw (x, d))
 
-  pub factor_deep_bracket : (b ≡ tilde → ⊥) → b ≡ opening → n ≡ 0 → ReadAs single finals kinds values n s at (stop 22 at)
-  factor_deep_bracket x y d = factor_step (stop 22 at) (λ g l. rw (ne_eqb (byte s at) tilde (λ z. x (e ∙ z)), eq-eqb (byte s at) opening (sym e ∙ y), d))
+  pub factor_deep_bracket : is tilde s at ≡ false → is opening s at ≡ true → n ≡ 0 → ReadAs single finals kinds values n s at (stop 22 at)
+  factor_deep_bracket x y d = factor_step (stop 22 at) (λ g l. rw (x, y, d))
 
   module _ (q : ℕ) (v : q ≡ skipped s (at + 1)) where
-    on_byte : (x : ℕ) → x < 256 → b ≡ x → (at < q) × (q ≤ length s)
-    on_byte x l h = omega (arith, skip-within s (at + 1) (at + 1) (omega arith) (omega (arith, byte_inside s at b x e h l)))
+    on_byte : (x : ℕ) → x < 256 → is x s at ≡ true → (at < q) × (q ≤ length s)
+    on_byte x l h = omega (arith, skip-within s (at + 1) (at + 1) (omega arith) (omega (arith, stands_inside s at x l h)))
 
     -- the measure of the next call
-    pub factor_falls : (x m t : ℕ) → b ≡ x → x < 256 → m ≤ 2 → 3 * (length s - at) + 0 ≡ t → 3 * (length s - q) + m < t
+    pub factor_falls : (x m t : ℕ) → is x s at ≡ true → x < 256 → m ≤ 2 → 3 * (length s - at) + 0 ≡ t → 3 * (length s - q) + m < t
     factor_falls x m t h l i d = omega (arith, on_byte x l h)
 
     module _ (inner o : Out Bool) (d : n ≡ 0 → ⊥) where
-      pub factor_not : b ≡ tilde → ReadAs single finals kinds values (n - 1) s q inner → o ≡ map_out not inner → ReadAs single finals kinds values n s at o
+      pub factor_not : is tilde s at ≡ true → ReadAs single finals kinds values (n - 1) s q inner → o ≡ map_out not inner → ReadAs single finals kinds values n s at o
       factor_not x r c =
           let m : n ≡ suc (n - 1) = omega arith in
           factor_step o (λ g l. c ∙ ap (map_out not) (r.same g (omega (arith, on_byte tilde (omega arith) x)))
           ∙ negated-truth (value_in finals) (value_in values) (factor_by g (held_ranges finals kinds) (n - 1) s q)
-          ∙ rw (eq-eqb (byte s at) tilde (sym e ∙ x), nested_down n (n - 1) (λ i. negated (λ s at. factor_by g (held_ranges finals kinds) i s at)) s at m, ← v))
+          ∙ rw (x, nested_down n (n - 1) (λ i. negated (λ s at. factor_by g (held_ranges finals kinds) i s at)) s at m, ← v))
 
-      pub factor_bracket : (b ≡ tilde → ⊥) → b ≡ opening → ReadAs disjunction finals kinds values (n - 1) s q inner → o ≡ closed_by s inner → ReadAs single finals kinds values n s at o
+      pub factor_bracket : is tilde s at ≡ false → is opening s at ≡ true → ReadAs disjunction finals kinds values (n - 1) s q inner → o ≡ closed_by s inner → ReadAs single finals kinds values n s at o
       factor_bracket x y r c =
           let m : n ≡ suc (n - 1) = omega arith in
           factor_step o (λ g l. c ∙ ap (closed_by s) (r.same g (omega (arith, on_byte opening (omega arith) y)))
           ∙ closed-truth (value_in finals) (value_in values) s (condition_by g (held_ranges finals kinds) (n - 1) s q)
-          ∙ rw (ne_eqb (byte s at) tilde (λ z. x (e ∙ z)), eq-eqb (byte s at) opening (sym e ∙ y), nested_down n (n - 1) (λ i. closed (λ s at. condition_by g (held_ranges finals kinds) i s at)) s at m, ← v))
+          ∙ rw (x, y, nested_down n (n - 1) (λ i. closed (λ s at. condition_by g (held_ranges finals kinds) i s at)) s at m, ← v))
+
+-- what was read in a bracket, and its end
+pub closed_refused : (s : List ℕ) (x p : ℕ) → stop x p ≡ closed_by s (stop x p)
+unfolding closed_by
+closed_refused s x p = refl
+
+module _ (s : List ℕ) (t : Bool) (p : ℕ) where
+  pub closed_open : (x q : ℕ) → stop x q ≡ sign closing s p → stop x q ≡ closed_by s (next t p)
+  unfolding closed_by
+  closed_open x q z = rw (← z)
+
+  pub closed_shut : (e q : ℕ) → next tt e ≡ sign closing s p → q ≡ skipped s e → next t q ≡ closed_by s (next t p)
+  unfolding closed_by
+  closed_shut e q z l = rw (← z, l)
 
 -- ---- a whole text
 
@@ -246,18 +265,18 @@ module _ (finals kinds values s : List ℕ) where
   unfolding read_text
   text-long h = rw (lt-ltb most_text (length s) h)
 
-  module _ (at : ℕ) (r : ConditionRead) (h : length s ≤ most_text) (a : at ≡ skipped s 0) (k : ReadAs disjunction finals kinds values most_depth s at (truth_out r)) where
-    text_read : Given (onward (λ b p. onward (λ _ p. next b p) (end s p)) (truth_out r))
+  module _ (at : ℕ) (r : Out Bool) (h : length s ≤ most_text) (a : at ≡ skipped s 0) (k : ReadAs disjunction finals kinds values most_depth s at r) where
+    text_read : Given (onward (λ b p. onward (λ _ p. next b p) (end s p)) r)
     unfolding read_text whole_by
     text_read = rw (le-ltb most_text (length s) h, k.same enough (omega arith), ← a) (sym (ended-truth (truth_c (value_in finals) (value_in values)) s (condition_by enough (held_ranges finals kinds) most_depth s at)))
 
-    pub text-refused : (x p : ℕ) → r ≡ Refused x p → Given (stop x p)
+    pub text-refused : (x p : ℕ) → r ≡ stop x p → Given (stop x p)
     text-refused x p e = rw e at text_read
 
-    pub text-whole : (b : Bool) (p : ℕ) → r ≡ Truth b p → p ≡ length s → Given (next b p)
+    pub text-whole : (b : Bool) (p : ℕ) → r ≡ next b p → p ≡ length s → Given (next b p)
     unfolding end
     text-whole b p e z = rw (e, eq-eqb p (length s) z) at text_read
 
-    pub text-more : (b : Bool) (p : ℕ) → r ≡ Truth b p → (p ≡ length s → ⊥) → Given (stop 21 p)
+    pub text-more : (b : Bool) (p : ℕ) → r ≡ next b p → (p ≡ length s → ⊥) → Given (stop 21 p)
     unfolding end
     text-more b p e z = rw (e, ne_eqb p (length s) z) at text_read

@@ -7,33 +7,15 @@ use mathlib.Core.Bool.{Bool, true, false, cond}
 use mathlib.Core.List.{List}
 use lib.Dec.{eqb, ltb}
 use lib.ListN.{length, get_or}
-use borrow.Author.Tests.{eq-eqb, ne_eqb, le-leb, ltb-true}
+use borrow.Author.Tests.{le-leb, ltb-true}
 use Rattle.finite.proofs.Tests.{and_l}
-use Rattle.number.specs.Reader.{Out, stop, next, tested, unless, onward, number_out}
-use Rattle.number.specs.declared.NumberRead.{NumberRead}
-use Rattle.number.specs.declared.NumberRead.TheVariants.{Number, Refused}
+use Rattle.number.specs.Reader.{Out, stop, next, tested, unless, onward}
 use Rattle.model.specs.Limits.{most_value}
 use Rattle.model.specs.Case.{load}
-use Rattle.condition_model.specs.Grammar.{Factor, Factor.memory_is, Factor.load_is, equals, letter_m, letter_e}
-use Rattle.condition_model.specs.Reader.{byte, skipped, sign, number, number_in, label, valued, equation_by, equation_at}
+use Rattle.condition_model.specs.Grammar.{Factor, Factor.memory_is, Factor.load_is, letter_m, letter_e}
+use Rattle.condition_model.specs.Reader.{is, skipped, number, number_in, label, valued, equation_by, equation_at}
 use Rattle.condition_model.specs.Truth.{truth_f}
 use Rattle.condition_reader.specs.Told.{map_out, value_in, is_address, is_load, is_value, held_ranges, equation_truth}
-
--- ---- `=` and a value
-
-module _ (s : List ℕ) (at b x : ℕ) (e : b ≡ byte s at) where
-  pub valued-none : (b ≡ equals → ⊥) → stop 21 at ≡ map_out (eqb x) (valued is_value s at)
-  unfolding valued sign
-  valued-none n = rw (ne_eqb (byte s at) equals (λ h. n (e ∙ h)))
-
-  module _ (q : ℕ) (r : NumberRead) (h : b ≡ equals) (k : q ≡ skipped s (at + 1)) (l : number_out r ≡ number_in is_value s q) where
-    pub valued-refused : (n p : ℕ) → r ≡ Refused n p → stop n p ≡ map_out (eqb x) (valued is_value s at)
-    unfolding valued sign
-    valued-refused n p f = rw (eq-eqb (byte s at) equals (sym e ∙ h), ← k, ← l, f)
-
-    pub valued_read : (v p z : ℕ) → r ≡ Number v p → z ≡ skipped s p → next (eqb x v) z ≡ map_out (eqb x) (valued is_value s at)
-    unfolding valued sign
-    valued_read v p z f g = rw (eq-eqb (byte s at) equals (sym e ∙ h), ← k, ← l, f, g)
 
 -- ---- a label and its value
 
@@ -70,23 +52,23 @@ tested_narrow test N at (next v p) = go (test v) refl (is_value v) refl
     go false e true f = rw e
     go false e false f = refl
 
-module _ (test : ℕ → Bool) (held s : List ℕ) (at : ℕ) (r : NumberRead) (N : Narrow test) (e : number_out r ≡ number_in is_value s (at + 1)) where
-  number_test : number_in test s (at + 1) ≡ tested 3 test (at + 1) (number_out r)
+module _ (test : ℕ → Bool) (held s : List ℕ) (at : ℕ) (N : Narrow test) where
+  number_test : (o : Out ℕ) → o ≡ number_in is_value s (at + 1) → number_in test s (at + 1) ≡ tested 3 test (at + 1) o
   unfolding unless
-  number_test = tested_narrow test N (at + 1) (number s (at + 1)) ∙ ap (tested 3 test (at + 1)) (sym e)
+  number_test o e = tested_narrow test N (at + 1) (number s (at + 1)) ∙ ap (tested 3 test (at + 1)) (sym e)
 
-  pub equation-refused : (n p : ℕ) → r ≡ Refused n p → stop n p ≡ equation_truth test held s at
+  pub equation-refused : (n p : ℕ) → stop n p ≡ number_in is_value s (at + 1) → stop n p ≡ equation_truth test held s at
   unfolding equation_truth label
-  equation-refused n p f = rw (number_test, f)
+  equation-refused n p e = rw (number_test (stop n p) e)
 
-  module _ (v p : ℕ) (t : Bool) (f : r ≡ Number v p) (k : t ≡ test v) where
+  module _ (v p : ℕ) (e : next v p ≡ number_in is_value s (at + 1)) (t : Bool) (k : t ≡ test v) where
     pub equation-outside : t ≡ false → stop 3 (at + 1) ≡ equation_truth test held s at
     unfolding equation_truth label
-    equation-outside h = rw (number_test, f, ← k, h)
+    equation-outside h = rw (number_test (next v p) e, ← k, h)
 
     pub equation_read : (q : ℕ) (o : Out Bool) → t ≡ true → q ≡ skipped s p → o ≡ map_out (eqb (value_in held v)) (valued is_value s q) → o ≡ equation_truth test held s at
     unfolding equation_truth label
-    equation_read q o h l g = g ∙ rw (number_test, f, ← k, h, l)
+    equation_read q o h l g = g ∙ rw (number_test (next v p) e, ← k, h, l)
 
 -- ---- an equation
 
@@ -103,20 +85,17 @@ by_truth truth test make held s at h = go (label test s at)
     go (stop x p) = refl
     go (next n p) = value n (valued is_value s p)
 
-module _ (finals kinds values s : List ℕ) (at b : ℕ) (e : b ≡ byte s at) where
-  pub equation_memory : (o : Out Bool) → b ≡ letter_m → o ≡ equation_truth (is_address finals) finals s at
+module _ (finals kinds values s : List ℕ) (at : ℕ) where
+  pub equation_memory : (o : Out Bool) → is letter_m s at ≡ true → o ≡ equation_truth (is_address finals) finals s at
       → o ≡ map_out (truth_f (value_in finals) (value_in values)) (equation_at (held_ranges finals kinds) s at)
   unfolding equation_at truth_f
-  equation_memory o h k = k ∙ rw (eq-eqb (byte s at) letter_m (sym e ∙ h)) (by_truth (truth_f (value_in finals) (value_in values)) (is_address finals) memory_is finals s at (λ n v. refl))
+  equation_memory o h k = k ∙ rw h (by_truth (truth_f (value_in finals) (value_in values)) (is_address finals) memory_is finals s at (λ n v. refl))
 
-  pub equation-load : (o : Out Bool) → (b ≡ letter_m → ⊥) → b ≡ letter_e → o ≡ equation_truth (is_load kinds) values s at
+  pub equation-load : (o : Out Bool) → is letter_m s at ≡ false → is letter_e s at ≡ true → o ≡ equation_truth (is_load kinds) values s at
       → o ≡ map_out (truth_f (value_in finals) (value_in values)) (equation_at (held_ranges finals kinds) s at)
   unfolding equation_at truth_f
-  equation-load o n h k =
-      k
-      ∙ rw (ne_eqb (byte s at) letter_m (λ z. n (e ∙ z)), eq-eqb (byte s at) letter_e (sym e ∙ h))
-      (by_truth (truth_f (value_in finals) (value_in values)) (is_load kinds) load_is values s at (λ n v. refl))
+  equation-load o n h k = k ∙ rw (n, h) (by_truth (truth_f (value_in finals) (value_in values)) (is_load kinds) load_is values s at (λ n v. refl))
 
-  pub equation-none : (b ≡ letter_m → ⊥) → (b ≡ letter_e → ⊥) → stop 21 at ≡ map_out (truth_f (value_in finals) (value_in values)) (equation_at (held_ranges finals kinds) s at)
+  pub equation-none : is letter_m s at ≡ false → is letter_e s at ≡ false → stop 21 at ≡ map_out (truth_f (value_in finals) (value_in values)) (equation_at (held_ranges finals kinds) s at)
   unfolding equation_at
-  equation-none n m = rw (ne_eqb (byte s at) letter_m (λ z. n (e ∙ z)), ne_eqb (byte s at) letter_e (λ z. m (e ∙ z)))
+  equation-none n m = rw (n, m)

@@ -1,3 +1,4 @@
+pub mod Passing
 pub mod Places
 pub mod Equations
 pub mod Signs

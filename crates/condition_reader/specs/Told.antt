@@ -1,32 +1,45 @@
 -- What the code's answers tell, and what the lists that are lent to it hold.
 -- Assumes nothing.
-use Rattle.std.specs.Prelude.{ℕ, ◌+◌, ◌*◌, ◌-◌, ◌≤◌, ◌≡◌, Bool, true, false, ◌&&◌, List, eqb, leb, ltb, length, get_or, drop}
+use Rattle.std.specs.Prelude.{ℕ, ◌+◌, ◌*◌, ◌-◌, ◌≤◌, ◌≡◌, Bool, true, false, ◌&&◌, List, eqb, leb, ltb, length, get_or, drop, Option, None, Some, Result, Ok, Err}
 use Rattle.number.specs.Reader.{Out, stop, next, Reader, give, onward, tested}
 use Rattle.model.specs.Limits.{most_value}
 use Rattle.model.specs.Case.{load}
 use Rattle.condition_model.specs.Grammar.{closing, Ranges}
 use Rattle.condition_model.specs.Reader.{◌>>◌, skip, pass, sign, digits, value_by, label, valued, if_byte, condition_by, term_by, factor_by}
 use Rattle.condition_model.specs.Truth.{truth_c, truth_t, truth_f}
-use Rattle.condition_reader.specs.declared.ConditionRead.{ConditionRead}
-use Rattle.condition_reader.specs.declared.ConditionRead.TheVariants.{Truth, Refused}
-use Rattle.condition_reader.specs.declared.Sign.{Sign}
-use Rattle.condition_reader.specs.declared.Sign.TheVariants as sign
+use Rattle.condition_reader.specs.declared.TextFault.{TextFault}
+use Rattle.condition_reader.specs.declared.TextFault.TheVariants.{Range, Grammar, Depth}
+use Rattle.condition_reader.specs.declared.TextRefusal.{TextRefusal}
 
 -- the same answer, with a function of what was read
 abbrev pub map_out : {A B : Type 0} → (A → B) → Out A → Out B
 map_out f (stop x p) = stop x p
 map_out f (next a p) = next (f a) p
 
--- what the code read
-abbrev pub truth_out : ConditionRead → Out Bool
-truth_out (Truth b p) = next b p
-truth_out (Refused x p) = stop x p
+-- 02 (x): the number of a fault
+abbrev pub text_number : TextFault → ℕ
+text_number Range = 3
+text_number Grammar = 21
+text_number Depth = 22
+
+abbrev pub refused : {A : Type 0} → TextRefusal → Out A
+refused e = stop (text_number e.fault) e.place
+
+-- what the code answers, as a reader does: what was read and the place behind it, or a refusal and its place
+abbrev pub told : {A : Type 0} → Result (A × ℕ) TextRefusal → Out A
+told (Ok r) = next r.0 r.1
+told (Err e) = refused e
+
+-- the same where only a place is found
+abbrev pub place_told : Result ℕ TextRefusal → Out (Unit {0})
+place_told (Ok p) = next tt p
+place_told (Err e) = refused e
 
 -- whether the sign stood at the place where it was looked for
-abbrev pub sign_out : (at : ℕ) → Sign → Out Bool
-sign_out at sign.Absent = next false at
-sign_out at (sign.Next p) = next true p
-sign_out at (sign.Refused x p) = stop x p
+abbrev pub sign_told : (at : ℕ) → Result (Option ℕ) TextRefusal → Out Bool
+sign_told at (Ok None) = next false at
+sign_told at (Ok (Some p)) = next true p
+sign_told at (Err e) = refused e
 
 -- the value of an address or a load
 abbrev pub value_in : List ℕ → ℕ → ℕ

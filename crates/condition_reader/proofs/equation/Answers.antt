@@ -1,24 +1,15 @@
-use borrow.Author.Rules.{rules}
-use Rattle.condition_reader.proofs.Places.{byte_inside}
+use mathlib.Core.Path.{sym, ◌∙◌}
 use Rattle.condition_reader.proofs.Equations.{equation_memory, equation-load, equation-none}
 use Rattle.condition_reader.proofs.equation.Goals as goal
 
-pub memory-requires : goal.memory-requires
-memory-requires c =
-    search (rules, byte_inside)
+pub returns-then-stands : goal.returns-then-stands
+returns-then-stands c =
+    equation_memory _ _ _ _ _ _ (sym c.stands.ensures ∙ c.if-stands.true) c.memory.ensures
 
-pub returns-then-b-eq-LETTER_M : goal.returns-then-b-eq-LETTER_M
-returns-then-b-eq-LETTER_M c =
-    search equation_memory
-
-pub load-requires : goal.load-requires
-load-requires c =
-    search (rules, byte_inside)
-
-pub returns-then-b-eq-LETTER_E : goal.returns-then-b-eq-LETTER_E
-returns-then-b-eq-LETTER_E c =
-    search equation-load
+pub returns-then-stands-2 : goal.returns-then-stands-2
+returns-then-stands-2 c =
+    equation-load _ _ _ _ _ _ (sym c.stands.ensures ∙ c.if-stands.false) (sym c.stands-2.ensures ∙ c.if-stands-2.true) c.load.ensures
 
 pub returns : goal.returns
 returns c =
-    search equation-none
+    rw c.at.ensures (equation-none _ _ _ _ _ (sym c.stands.ensures ∙ c.if-stands.false) (sym c.stands-2.ensures ∙ c.if-stands-2.false))

@@ -1,13 +1,14 @@
-use borrow.Author.Tests.{lt-ltb, le-ltb}
 use Rattle.condition_reader.specs.Told.{is_load}
+use native.Mathlib.Omega.{arith}
+use Rattle.std.proofs.lemmas.Bool.Decides.{nat_tests}
 use Rattle.condition_reader.proofs.is_load.Goals as goal
 
 pub returns-then-e-kinds : goal.returns-then-e-kinds
 unfolding is_load
 returns-then-e-kinds c =
-    rw (lt-ltb _ _ c.if-e-kinds.true)
+    grind (arith, nat_tests)
 
-pub returns : goal.returns
+pub returns-else-e-kinds : goal.returns-else-e-kinds
 unfolding is_load
-returns c =
-    rw (le-ltb _ _ c.if-e-kinds.false)
+returns-else-e-kinds c =
+    grind (arith, nat_tests)

@@ -3,8 +3,8 @@ use Rattle.condition_reader.proofs.number.Goals as goal
 
 pub returns-then-unfit : goal.returns-then-unfit
 returns-then-unfit c =
-    search number-unfit
+    rw c.at.ensures (number-unfit _ _ _ c.unfit.ensures c.if-unfit.true)
 
 pub returns : goal.returns
 returns c =
-    search number_fit
+    number_fit _ _ _ c.unfit.ensures _ c.if-unfit.false c.value_of.ensures

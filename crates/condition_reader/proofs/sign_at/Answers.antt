@@ -1,24 +1,19 @@
-use borrow.Author.Rules.{rules}
-use Rattle.condition_reader.proofs.Places.{byte_fits}
-use Rattle.condition_reader.proofs.Signs.{sign_absent, sign-broken, sign-whole}
+use mathlib.Core.Path.{sym, ◌∙◌}
+use Rattle.condition_reader.specs.Told.{sign_at}
+use Rattle.condition_reader.proofs.Passing.{sign_told-err}
 use Rattle.condition_reader.proofs.sign_at.Goals as goal
 
-pub overflow_add-second : goal.overflow_add-second
-overflow_add-second c =
-    search (rules, byte_fits)
+pub returns-then-not-stands : goal.returns-then-not-stands
+unfolding sign_at
+returns-then-not-stands c =
+    rw (sym c.stands.ensures ∙ c.if-not-stands.true)
 
-pub overflow_add-second-then-peek-y : goal.overflow_add-second-then-peek-y
-overflow_add-second-then-peek-y c =
-    search (rules, byte_fits)
-
-pub returns-then-peek-y : goal.returns-then-peek-y
-returns-then-peek-y c =
-    search sign-whole
-
-pub returns-then-peek-x : goal.returns-then-peek-x
-returns-then-peek-x c =
-    search sign-broken
+pub returns-in_err-end : goal.returns-in_err-end
+unfolding sign_at
+returns-in_err-end c =
+    sign_told-err _ _ _ c.from_residual.ensures ∙ rw (sym c.stands.ensures ∙ c.if-not-stands.false, ← c.in_err-end.ensures)
 
 pub returns : goal.returns
+unfolding sign_at
 returns c =
-    search sign_absent
+    rw (sym c.stands.ensures ∙ c.if-not-stands.false, ← c.in_ok-end.ensures, ← c.skip.ensures)

@@ -1,19 +1,22 @@
+use mathlib.Core.Path.{ap, ◌∙◌}
+use mathlib.Core.List.{List}
+use Prim.Native.Nat.{ℕ, ◌+◌}
+use lib.ListN.{length, drop}
 use borrow.Author.Rules.{rules}
-use Rattle.condition_reader.proofs.Places.{byte_fits, skip-next, skip-less, skip_done}
+use borrow.Author.Tests.{tests}
+use Rattle.std.proofs.lemmas.Iterator.{YieldsList-from_slice}
+use Rattle.std.proofs.lemmas.Iterator.Adapters.{YieldsList-from_skip}
+use Rattle.std.proofs.lemmas.Iterator.Search.{YieldsList-from_take_while}
+use Rattle.std.proofs.lemmas.Iterator.Consumers.{count_from_yields_List}
+use Rattle.condition_model.specs.Reader.{is_space, skipped}
+use Rattle.condition_reader.proofs.Places.{front-prefix}
 use Rattle.condition_reader.proofs.skip.Goals as goal
 
-pub overflow_add-i : goal.overflow_add-i
-overflow_add-i c =
-    search (rules, byte_fits)
-
-pub loop-b-smaller : goal.loop-b-smaller
-loop-b-smaller c =
-    search skip-less
-
-pub loop-b-preserved : goal.loop-b-preserved
-loop-b-preserved c =
-    search (rules, skip-next)
-
 pub returns : goal.returns
+unfolding skipped
 returns c =
-    search skip_done
+    let s = c.args in
+    ap (λ (n : ℕ). s.at + n) (
+    count_from_yields_List c.take_while.result _ c.count.ensures.ran
+    (YieldsList-from_take_while _ is_space (YieldsList-from_skip s.at (YieldsList-from_slice s.text.now (cc)) (cc)) c.take_while.ensures.closure c.take_while.ensures.done (λ x b q k. search (rules, tests)))
+    ∙ ap (λ (l : List ℕ). length l) (front-prefix is_space (drop s.at s.text.now)))

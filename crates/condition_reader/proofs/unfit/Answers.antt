@@ -1,19 +1,20 @@
-use borrow.Author.Rules.{rules}
-use Rattle.condition_reader.proofs.Places.{byte_fits, unfit-none, unfit-zero, unfit-not}
+use native.Mathlib.Omega.{arith}
+use Rattle.std.proofs.lemmas.Bool.Decides.{nat_tests}
+use Rattle.condition_reader.proofs.Places.{unfit-by, digits_inside}
 use Rattle.condition_reader.proofs.unfit.Goals as goal
 
-pub overflow_add-at : goal.overflow_add-at
-overflow_add-at c =
-    search (rules, byte_fits)
+pub bounds-text-at : goal.bounds-text-at
+bounds-text-at c =
+    digits_inside c.args.text.now c.args.at _ c.digits-count.ensures (omega arith)
 
-pub returns-then-first-eq-ZERO : goal.returns-then-first-eq-ZERO
-returns-then-first-eq-ZERO c =
-    search unfit-zero
+pub returns-then-count-eq0 : goal.returns-then-count-eq0
+returns-then-count-eq0 c =
+    rw (unfit-by c.args.text.now c.args.at _ c.digits-count.ensures) (grind (arith, nat_tests))
 
-pub returns-then-is_digit : goal.returns-then-is_digit
-returns-then-is_digit c =
-    search unfit-not
+pub returns-then-count-gt1 : goal.returns-then-count-gt1
+returns-then-count-gt1 c =
+    rw (unfit-by c.args.text.now c.args.at _ c.digits-count.ensures) (grind (arith, nat_tests))
 
-pub returns : goal.returns
-returns c =
-    search unfit-none
+pub returns-else-count-gt1 : goal.returns-else-count-gt1
+returns-else-count-gt1 c =
+    rw (unfit-by c.args.text.now c.args.at _ c.digits-count.ensures) (grind (arith, nat_tests))

@@ -1,20 +1,19 @@
-use borrow.Author.Rules.{rules}
-use Rattle.condition_reader.proofs.Places.{byte_fits}
-use Rattle.condition_reader.proofs.Equations.{valued-none, valued-refused, valued_read}
+use mathlib.Core.Path.{◌∙◌}
+use Rattle.condition_model.specs.Reader.{valued}
+use Rattle.condition_reader.proofs.Passing.{told-err}
 use Rattle.condition_reader.proofs.valued.Goals as goal
 
-pub overflow_add-at : goal.overflow_add-at
-overflow_add-at c =
-    search (rules, byte_fits)
+pub returns-in_err-start : goal.returns-in_err-start
+unfolding valued
+returns-in_err-start c =
+    told-err _ _ c.from_residual.ensures ∙ rw (← c.in_err-start.ensures)
 
-pub returns-in-Number : goal.returns-in-Number
-returns-in-Number c =
-    search valued_read
+pub returns-in_err-v : goal.returns-in_err-v
+unfolding valued
+returns-in_err-v c =
+    told-err _ _ c.from_residual-in_err-v.ensures ∙ rw (← c.in_ok-start.ensures, ← c.skip.ensures, ← c.in_err-v.ensures)
 
-pub returns-in-Refused : goal.returns-in-Refused
-returns-in-Refused c =
-    search valued-refused
-
-pub returns-else-peek-eq-EQUALS : goal.returns-else-peek-eq-EQUALS
-returns-else-peek-eq-EQUALS c =
-    search valued-none
+pub returns : goal.returns
+unfolding valued
+returns c =
+    rw (← c.in_ok-start.ensures, ← c.skip.ensures, ← c.in_ok-v.ensures, ← c.skip-2.ensures)
