@@ -1,15 +1,16 @@
 -- The model's answers about conditions as the struct that callers get.
 -- Assumes nothing.
-use Rattle.std.specs.Prelude.{ℕ, Bool, false, List, get_or}
+use Rattle.std.specs.Prelude.{ℕ, Bool, false, List, get_or, Result, Ok, Err}
 use Rattle.finite.specs.Lists.{table}
 use Rattle.finite.specs.Tests.{tick}
 use Rattle.number.specs.Reader.{Out, stop, next}
 use Rattle.model.specs.Answers.{refusal}
 use Rattle.answers.specs.declared.Answer.{Answer}
-use Rattle.answers.specs.Shown.{shown}
+use Rattle.answers.specs.declared.Refused.{Refused}
+use Rattle.answers.specs.Shown.{shown, refusal_of}
 use Rattle.condition_model.specs.Reader.{read_text}
 use Rattle.condition_model.specs.Truth.{truth_c}
-use Rattle.condition_model.specs.Answers.{ConditionAnswer}
+use Rattle.condition_model.specs.Answers.{ConditionAnswer, without}
 use Rattle.condition_reader.specs.Told.{map_out, value_in, held_ranges}
 use Rattle.condition.specs.declared.ConditionAnswer.{ConditionAnswer as Given}
 
@@ -23,6 +24,11 @@ shown_with a b = shown_beside a (tick b)
 
 abbrev pub condition_shown : ConditionAnswer → Given
 condition_shown w = shown_with (shown w.answer) w.holds
+
+-- the answer of a call that may be refused
+abbrev pub condition_given : Result Given Refused → Given
+condition_given (Ok w) = w
+condition_given (Err e) = condition_shown (without (refusal_of e))
 
 -- of an accepted case, by the truth of its text or the text's fault
 abbrev pub shown_by : Answer → Out Bool → Given
