@@ -2,10 +2,12 @@
 -- Assumes nothing.
 use Prim.Native.Nat.{ℕ, ◌+◌, ◌≤◌, ◌<◌}
 use mathlib.Core.Path.{◌≡◌, refl, sym, ap, ◌∙◌, subst}
-use lib.ListN.{get_or}
+use lib.ListN.{length, get_or}
+use native.Mathlib.Omega.{arith}
+use Rattle.std.specs.Prelude.{Ok, Err}
 use Rattle.finite.proofs.Lists.{table-length}
-use Rattle.storage_model.specs.Limits.{most_steps}
-use Rattle.storage_model.specs.Trace.{Step}
+use Rattle.storage_model.specs.Limits.{most_kind, most_steps}
+use Rattle.storage_model.specs.Trace.{Step, acknowledge}
 use Rattle.storage_model.specs.Subsystem.{State, effect, Ran, refused, run}
 use Rattle.storage_model.specs.Answers.{ran_answer}
 use Rattle.storage_laws.proofs.Running.{Running, running_begun, running_more, running_refused, running_ends, BehindAt, behind-begun, step-fits_at, behind_more}
@@ -13,10 +15,13 @@ use Rattle.storage.specs.Held.{state_of, held, Good}
 use Rattle.storage.specs.declared.Storage.{Storage as Held}
 use Rattle.storage.proofs.Means.{writes-of, barriers-of, addresses_of}
 use Rattle.storage.proofs.Back.{state_back}
-use Rattle.trace_reader.specs.Held.{step_of, steps_of}
+use Rattle.trace_reader.specs.Held.{kind_of, step_of, steps_of, held_trace}
+use Rattle.case.proofs.HeldBack.{in_fields}
 use Rattle.trace_reader.specs.declared.Trace.{Trace as HeldTrace}
-use Rattle.transitions.specs.Steps.{Took}
-use Rattle.transitions.specs.declared.Stepped.{Stepped}
+use Rattle.transitions.specs.Steps.{Took, number_of}
+use Rattle.transitions.specs.declared.Condition.{Condition}
+use Rattle.transitions.specs.declared.Condition.TheVariants.{First, Second, Third}
+use Rattle.traces.proofs.ByKind.{kind_least, kind_most}
 use Rattle.traces.specs.Shown.{trace_of, GoodTrace, Fitting, start_of, trace_shown}
 use Rattle.traces.specs.declared.TraceAnswer.{TraceAnswer}
 
@@ -43,12 +48,30 @@ turn_held c i s R B l =
       few = l;
     }
 
+-- a condition's number is not 0
+not_none : (e : Condition) → number_of e ≡ 0 → ⊥
+not_none First z = omega arith
+not_none Second z = omega arith
+not_none Third z = omega arith
+
+pub steps_few : (c : HeldTrace) → GoodTrace c → c.steps ≤ most_steps
+unfolding trace_of steps_of
+steps_few c G = rw table-length at G.fits.steps_most
+
+-- the kind of a step in the struct
+pub kind_within : (c : HeldTrace) → GoodTrace c → (i : ℕ) → i < c.steps → (1 ≤ get_or c.kind i 0) × (get_or c.kind i 0 ≤ most_kind)
+unfolding held_trace trace_of steps_of
+kind_within c G i l =
+    let d : Step = acknowledge 0 in
+    let long : i < length (steps_of c) = rw table-length l in
+    let is : get_or c.kind i 0 ≡ kind_of (get_or (steps_of c) i d) = ap (λ (x : HeldTrace). get_or x.kind i 0) G.same ∙ in_fields most_steps kind_of d (steps_of c) i long in
+    rw is (kind_least (get_or (steps_of c) i d), kind_most (get_or (steps_of c) i d))
+
 -- before the first turn
 pub turn_begun : (c : HeldTrace) → GoodTrace c → (now : Held) → now ≡ held (start_of c) → Turn c 0 now
 unfolding start_of trace_of steps_of
 turn_begun c G now h =
-    let few : c.steps ≤ most_steps = rw table-length at G.fits.steps_most in
-    subst (Turn c 0) (sym h) (turn_held c 0 (start_of c) running_begun (behind-begun (trace_of c) G.fits (step_at c) c.steps refl) few)
+    subst (Turn c 0) (sym h) (turn_held c 0 (start_of c) running_begun (behind-begun (trace_of c) G.fits (step_at c) c.steps refl) (steps_few c G))
 
 module _ (c : HeldTrace) (i : ℕ) (now : Held) (T : Turn c i now) where
   -- the struct is good
@@ -64,19 +87,18 @@ module _ (c : HeldTrace) (i : ℕ) (now : Held) (T : Turn c i now) where
         let addresses : now.addresses ≡ c.addresses = sym (addresses_of now) ∙ T.behind.state.addresses in
         record { fits = rw (threads, addresses, ← writes-of now, ← barriers-of now) (step-fits_at T.behind l) }
 
-    module _ (s : Stepped) (K : Took now (step_at c i) s) where
-      -- it is enabled: the next turn
-      pub turn_more : s.condition ≡ 0 → Turn c (i + 1) s.next
-      turn_more z =
-          let after : State = effect (state_of now) (step_at c i) in
-          subst (Turn c (i + 1)) (sym (K.next z))
-          (turn_held c (i + 1) after (running_more T.running l K.condition after z refl) (behind_more T.behind l K.condition z after refl) T.few)
+    -- it is enabled: the next turn
+    pub turn_more : (next : Held) → Took now (step_at c i) (Ok next) → Turn c (i + 1) next
+    turn_more next K =
+        let after : State = effect (state_of now) (step_at c i) in
+        subst (Turn c (i + 1)) (sym (K.next next refl))
+        (turn_held c (i + 1) after (running_more T.running l K.condition after refl refl) (behind_more T.behind l K.condition refl after refl) T.few)
 
-      -- it is not: the answer
-      pub turn_refused : (s.condition ≡ 0 → ⊥) → (size : ℕ) (r : TraceAnswer) → r ≡ trace_shown (ran_answer 0 (refused i s.condition))
-          → r ≡ trace_shown (ran_answer size (run (trace_of c)))
-      unfolding run start_of trace_of steps_of
-      turn_refused d size r h = h ∙ ap (λ (o : Ran). trace_shown (ran_answer size o)) (running_refused T.running l K.condition d)
+    -- it is not: the answer
+    pub turn_refused : (e : Condition) → Took now (step_at c i) (Err e) → (size : ℕ) (r : TraceAnswer) → r ≡ trace_shown (ran_answer 0 (refused i (number_of e)))
+        → r ≡ trace_shown (ran_answer size (run (trace_of c)))
+    unfolding run start_of trace_of steps_of
+    turn_refused e K size r h = h ∙ ap (λ (o : Ran). trace_shown (ran_answer size o)) (running_refused T.running l K.condition (not_none e))
 
   -- behind the last step: the answer
   pub turn_ends : c.steps ≤ i → (size : ℕ)

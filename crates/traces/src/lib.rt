@@ -1,18 +1,20 @@
 // The judging of a trace: its steps taken one after the other, up to the first that is not enabled.
 #![tactic(auto)]
 
-ghost use Rattle.std.specs.Prelude.{◌≡◌};
-ghost use Rattle.number.specs.Reader.{stop};
+ghost use Rattle.std.specs.Prelude.{◌≡◌, ◌<◌, get_or};
+ghost use Rattle.number.specs.Reader.{refused as unread_as};
 ghost use Rattle.storage_model.specs.Subsystem.{refused, run as run_of};
 ghost use Rattle.storage_model.specs.Answers.{ran_answer, judge_trace_out, judge_trace};
-ghost use Rattle.storage.specs.Held.{Good, held};
+ghost use Rattle.storage.specs.Held.{held};
 ghost use Rattle.trace_reader.specs.Held.{step_of};
-ghost use Rattle.transitions.specs.Steps.{Took};
+ghost use Rattle.trace_reader.specs.Kinds.{number_of};
+ghost use Rattle.transitions.specs.Steps.{Took, number_of as condition_number};
 ghost use Rattle.traces.specs.Shown.{trace_of, GoodTrace, Fitting, start_of, trace_shown};
 
+use number::Refusal;
 use storage::Storage;
-use trace_reader::Trace;
-use transitions::Stepped;
+use trace_reader::{Kind, Trace};
+use transitions::{Condition, State};
 
 // A step is not enabled.
 const NOT_ENABLED: u32 = 31;
@@ -30,39 +32,37 @@ pub struct TraceAnswer {
 }
 
 // The answer where the trace can't be read.
-fn unread(number: u32, place: usize) -> TraceAnswer
-    ensures { result ≡ trace_shown (judge_trace_out (stop number place)) }
+fn unread(refusal: Refusal) -> TraceAnswer
+    ensures { result ≡ trace_shown (judge_trace_out (unread_as refusal)) }
 {
-    let end = Storage::empty();
     TraceAnswer {
-        number,
+        number: u32::from(refusal.fault),
         condition: 0,
-        place,
+        place: refusal.place,
         step: 0,
         length: 0,
-        end,
+        end: Storage::empty(),
     }
 }
 
 // The answer where a step is not enabled: that step, and the first of its conditions that fails.
-fn not_enabled(step: usize, condition: u8) -> TraceAnswer
-    ensures { result ≡ trace_shown (ran_answer 0 (refused step condition)) }
+fn not_enabled(step: usize, condition: Condition) -> TraceAnswer
+    ensures { result ≡ trace_shown (ran_answer 0 (refused step (condition_number condition))) }
 {
-    let end = Storage::empty();
     TraceAnswer {
         number: NOT_ENABLED,
-        condition: condition as u32,
+        condition: u32::from(condition),
         place: 0,
         step,
         length: 0,
-        end,
+        end: Storage::empty(),
     }
 }
 
 // The state before the first step.
-fn start(trace: Trace) -> Storage
-    requires { GoodTrace trace }
-    ensures { result ≡ held (start_of trace) }
+fn start(trace: &Trace) -> Storage
+    requires { GoodTrace trace.now }
+    ensures { result ≡ held (start_of trace.now) }
 {
     let initial = trace.initial;
     let mut out = Storage::empty();
@@ -72,59 +72,55 @@ fn start(trace: Trace) -> Storage
     out
 }
 
-// Takes a step of a kind with these fields.
-fn step(c: Storage, kind: u8, first: u8, second: u8, value: u32) -> Stepped
-    requires good { Good c }
-    requires fitting { Fitting c (step_of kind first second value) }
-    ensures { Took c (step_of kind first second value) result }
+// The kind of step i.
+fn kind_at(trace: &Trace, i: usize) -> Kind
+    requires good { GoodTrace trace.now }
+    requires i_lt_steps { i < trace.now.steps }
+    ensures { number_of result ≡ get_or trace.now.kind i 0 }
 {
-    let x = first as usize;
-    let y = second as usize;
-    if kind == Trace::ACCEPT_WRITE {
-        let next = transitions::accept_write(c, x, y, value);
-        return Stepped { condition: 0, next };
+    match Kind::try_from(trace.kind[i]) {
+        Ok(kind) => kind,
+        Err(_) => unreachable!(),
     }
-    if kind == Trace::ACCEPT_BARRIER {
-        let next = transitions::accept_barrier(c, x, y);
-        return Stepped { condition: 0, next };
+}
+
+// Takes a step of a kind with these fields.
+fn step(state: &State, kind: Kind, first: u8, second: u8, value: u32) -> Result<Storage, Condition>
+    requires { Fitting state.now.storage.now (step_of (number_of kind) first second value) }
+    ensures { Took state.now.storage.now (step_of (number_of kind) first second value) result }
+{
+    let x = usize::from(first);
+    let y = usize::from(second);
+    match kind {
+        Kind::AcceptWrite => Ok(state.accept_write(x, y, value)),
+        Kind::AcceptBarrier => Ok(state.accept_barrier(x, y)),
+        Kind::PropagateWrite => state.propagate_write(x, y),
+        Kind::PropagateBarrier => state.propagate_barrier(x, y),
+        Kind::Commit => state.commit(x, y),
+        Kind::Respond => state.respond(x, y, value),
+        Kind::Acknowledge => state.acknowledge(x),
     }
-    if kind == Trace::PROPAGATE_WRITE {
-        return transitions::propagate_write(c, x, y);
-    }
-    if kind == Trace::PROPAGATE_BARRIER {
-        return transitions::propagate_barrier(c, x, y);
-    }
-    if kind == Trace::COMMIT {
-        return transitions::commit(c, x, y);
-    }
-    if kind == Trace::RESPOND {
-        return transitions::respond(c, x, y, value);
-    }
-    transitions::acknowledge(c, x)
 }
 
 // Takes the steps of a trace of so many bytes, up to the first that is not enabled.
-fn run(trace: Trace, length: usize) -> TraceAnswer
-    requires { GoodTrace trace }
-    ensures { result ≡ trace_shown (ran_answer length (run_of (trace_of trace))) }
+fn run(trace: &Trace, length: usize) -> TraceAnswer
+    requires { GoodTrace trace.now }
+    ensures { result ≡ trace_shown (ran_answer length (run_of (trace_of trace.now))) }
 {
     let mut end = start(trace);
-    let count = trace.steps;
-    let mut i: usize = 0;
-    while i < count {
-        let s = step(
-            end,
-            trace.kind[i],
+    for i in 0..trace.steps {
+        let kind = kind_at(trace, i);
+        let state = State { storage: &end };
+        match step(
+            &state,
+            kind,
             trace.first[i],
             trace.second[i],
             trace.value[i],
-        );
-        if s.condition == 0 {
-            end = s.next;
-        } else {
-            return not_enabled(i, s.condition);
+        ) {
+            Ok(next) => end = next,
+            Err(condition) => return not_enabled(i, condition),
         }
-        i += 1;
     }
     TraceAnswer {
         number: 0,
@@ -140,9 +136,8 @@ fn run(trace: Trace, length: usize) -> TraceAnswer
 pub fn judge(bytes: &[u8]) -> TraceAnswer
     ensures { result ≡ trace_shown (judge_trace bytes.now) }
 {
-    let reading = trace_reader::read_trace(bytes);
-    if reading.number == 0 {
-        return run(reading.trace, reading.length);
+    match trace_reader::read(bytes) {
+        Ok((trace, length)) => run(&trace, length),
+        Err(refusal) => unread(refusal),
     }
-    unread(reading.number, reading.place)
 }

@@ -15,10 +15,9 @@ returns-then-not-has_room-clause-same c =
 
 pub read_fields-requires : goal.read_fields-requires
 read_fields-requires c =
-    let w = c.requires.writes_le_most_steps in (
-      rw c.first_count-firsts.ensures (first_few _ _ _ _ _ (omega arith) w.0 w.1),
-      rw c.second_count-seconds.ensures (second_few _ _ _ _ _ (omega arith) (omega arith) w.0 (omega arith)),
-    )
+    let w = c.requires.writes_le_most_steps in
+    (rw c.first_count-firsts.ensures (first_few _ _ _ _ _ (omega arith) (omega (arith, w)) (omega (arith, w))),
+    rw c.second_count-seconds.ensures (second_few _ _ _ _ _ (omega arith) (omega arith) (omega (arith, w)) (omega arith)))
 
 pub returns-clause-same : goal.returns-clause-same
 returns-clause-same c =

@@ -4,12 +4,12 @@ use Rattle.traces.proofs.judge.Goals as goal
 
 pub run-requires : goal.run-requires
 run-requires c =
-    search good_read
+    good_read _ c.type_inv.bytes _ _ c.in-Ok.ensures
 
-pub returns-then-reading-eq0 : goal.returns-then-reading-eq0
-returns-then-reading-eq0 c =
-    search judged
+pub returns-in-Ok : goal.returns-in-Ok
+returns-in-Ok c =
+    judged _ c.type_inv.bytes _ _ c.in-Ok.ensures _ c.run.ensures
 
-pub returns : goal.returns
-returns c =
-    search not-judged
+pub returns-in-Err : goal.returns-in-Err
+returns-in-Err c =
+    not-judged _ _ c.in-Err.ensures _ c.unread.ensures

@@ -4,4 +4,4 @@ use Rattle.traces.proofs.not_enabled.Goals as goal
 
 pub returns : goal.returns
 returns c =
-    search no_end
+    rw c.from.ensures (no_end 31 _ 0 _ _ c.empty.ensures)

@@ -1,32 +1,23 @@
 -- `traces::run` meets its contract. Assumes nothing.
-use native.Mathlib.Omega.{arith}
-use Rattle.traces.proofs.Turns.{turn_begun, turn_good, turn_fits, turn_refused, turn_more, turn_ends}
+use Rattle.traces.proofs.Turns.{turn_begun, turn_fits, turn_refused, turn_more, turn_ends}
 use Rattle.traces.proofs.run.Goals as goal
 
 pub loop-i-init : goal.loop-i-init
 loop-i-init c =
-    search turn_begun
+    turn_begun _ c.requires _ c.start-end.ensures
 
-pub step-s-requires-clause-good : goal.step-s-requires-clause-good
-step-s-requires-clause-good c =
-    search (turn_good, turn_fits)
+pub step-requires : goal.step-requires
+step-requires c =
+    rw c.kind_at-kind.ensures (turn_fits _ _ _ c.loop-i.invariant c.loop-i-test.true)
 
-pub step-s-requires-clause-fitting : goal.step-s-requires-clause-fitting
-step-s-requires-clause-fitting c =
-    search (turn_good, turn_fits)
-
-pub returns-else-s-eq0 : goal.returns-else-s-eq0
-returns-else-s-eq0 c =
-    search turn_refused
-
-pub loop-i-smaller : goal.loop-i-smaller
-loop-i-smaller c =
-    omega arith
+pub returns-in-Err : goal.returns-in-Err
+returns-in-Err c =
+    turn_refused _ _ _ c.loop-i.invariant c.loop-i-test.true _ (rw c.kind_at-kind.ensures at c.in-Err.ensures) _ _ c.not_enabled.ensures
 
 pub loop-i-preserved : goal.loop-i-preserved
 loop-i-preserved c =
-    search turn_more
+    turn_more _ _ _ c.loop-i.invariant c.loop-i-test.true _ (rw c.kind_at-kind.ensures at c.in-Ok.ensures)
 
 pub returns : goal.returns
 returns c =
-    search turn_ends
+    turn_ends _ _ _ c.loop-i.invariant c.loop-i-test.false _

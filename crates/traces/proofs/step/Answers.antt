@@ -1,98 +1,75 @@
 -- `traces::step` meets its contract. Assumes nothing.
-use Rattle.storage_model.specs.Trace.{acknowledge}
-use Rattle.traces.proofs.ByKind.{is_1, is_2, is_3, is_4, is_5, is_6, is_7, fits_as, took_as, took_write, took_barrier}
+use Rattle.traces.proofs.ByKind.{is_write, is_barrier, is_propagate_write, is_propagate_barrier, is_commit, is_respond, is_acknowledge, fits_as, took_as, took_write, took_barrier}
 use Rattle.traces.proofs.step.Goals as goal
 
-pub accept_write-next-requires-clause-good : goal.accept_write-next-requires-clause-good
-accept_write-next-requires-clause-good c =
-    c.requires.good
+pub accept_write-requires : goal.accept_write-requires
+accept_write-requires c =
+    fits_as c.requires (is_write c.args.value c.from-x.ensures c.from-y.ensures c.in-AcceptWrite.is)
 
-pub accept_write-next-requires-clause-step_fits : goal.accept_write-next-requires-clause-step_fits
-accept_write-next-requires-clause-step_fits c =
-    fits_as c.requires.fitting (is_1 _ _ _ _ c.if-kind-eq-ACCEPT_WRITE.true)
-
-pub returns-then-kind-eq-ACCEPT_WRITE : goal.returns-then-kind-eq-ACCEPT_WRITE
-returns-then-kind-eq-ACCEPT_WRITE c =
-    search (took_write, is_1)
-
-pub accept_barrier-next-requires-clause-good : goal.accept_barrier-next-requires-clause-good
-accept_barrier-next-requires-clause-good c =
-    c.requires.good
-
-pub accept_barrier-next-requires-clause-step_fits : goal.accept_barrier-next-requires-clause-step_fits
-accept_barrier-next-requires-clause-step_fits c =
-    fits_as c.requires.fitting (is_2 _ _ _ _ c.if-kind-eq-ACCEPT_BARRIER.true)
-
-pub returns-then-kind-eq-ACCEPT_BARRIER : goal.returns-then-kind-eq-ACCEPT_BARRIER
-returns-then-kind-eq-ACCEPT_BARRIER c =
-    search (took_barrier, is_2)
-
-pub propagate_write-requires-clause-good : goal.propagate_write-requires-clause-good
-propagate_write-requires-clause-good c = c.requires.good
+pub accept_barrier-requires : goal.accept_barrier-requires
+accept_barrier-requires c =
+    fits_as c.requires (is_barrier c.args.value c.from-x.ensures c.from-y.ensures c.in-AcceptBarrier.is)
 
 pub propagate_write-requires-clause-w_lt_writes : goal.propagate_write-requires-clause-w_lt_writes
-propagate_write-requires-clause-w_lt_writes c = (fits_as c.requires.fitting (is_3 _ _ _ _ c.if-kind-eq-PROPAGATE_WRITE.true)).0
+propagate_write-requires-clause-w_lt_writes c =
+    (fits_as c.requires (is_propagate_write c.args.value c.from-x.ensures c.from-y.ensures c.in-PropagateWrite.is)).0
 
 pub propagate_write-requires-clause-t_lt_threads : goal.propagate_write-requires-clause-t_lt_threads
-propagate_write-requires-clause-t_lt_threads c = (fits_as c.requires.fitting (is_3 _ _ _ _ c.if-kind-eq-PROPAGATE_WRITE.true)).1
-
-pub returns-then-kind-eq-PROPAGATE_WRITE : goal.returns-then-kind-eq-PROPAGATE_WRITE
-returns-then-kind-eq-PROPAGATE_WRITE c =
-    search (took_as, is_3)
-
-pub propagate_barrier-requires-clause-good : goal.propagate_barrier-requires-clause-good
-propagate_barrier-requires-clause-good c = c.requires.good
+propagate_write-requires-clause-t_lt_threads c =
+    (fits_as c.requires (is_propagate_write c.args.value c.from-x.ensures c.from-y.ensures c.in-PropagateWrite.is)).1
 
 pub propagate_barrier-requires-clause-b_lt_barriers : goal.propagate_barrier-requires-clause-b_lt_barriers
-propagate_barrier-requires-clause-b_lt_barriers c = (fits_as c.requires.fitting (is_4 _ _ _ _ c.if-kind-eq-PROPAGATE_BARRIER.true)).0
+propagate_barrier-requires-clause-b_lt_barriers c =
+    (fits_as c.requires (is_propagate_barrier c.args.value c.from-x.ensures c.from-y.ensures c.in-PropagateBarrier.is)).0
 
 pub propagate_barrier-requires-clause-t_lt_threads : goal.propagate_barrier-requires-clause-t_lt_threads
-propagate_barrier-requires-clause-t_lt_threads c = (fits_as c.requires.fitting (is_4 _ _ _ _ c.if-kind-eq-PROPAGATE_BARRIER.true)).1
-
-pub returns-then-kind-eq-PROPAGATE_BARRIER : goal.returns-then-kind-eq-PROPAGATE_BARRIER
-returns-then-kind-eq-PROPAGATE_BARRIER c =
-    search (took_as, is_4)
-
-pub commit-requires-clause-good : goal.commit-requires-clause-good
-commit-requires-clause-good c = c.requires.good
+propagate_barrier-requires-clause-t_lt_threads c =
+    (fits_as c.requires (is_propagate_barrier c.args.value c.from-x.ensures c.from-y.ensures c.in-PropagateBarrier.is)).1
 
 pub commit-requires-clause-x_lt_writes : goal.commit-requires-clause-x_lt_writes
-commit-requires-clause-x_lt_writes c = (fits_as c.requires.fitting (is_5 _ _ _ _ c.if-kind-eq-COMMIT.true)).0
+commit-requires-clause-x_lt_writes c =
+    (fits_as c.requires (is_commit c.args.value c.from-x.ensures c.from-y.ensures c.in-Commit.is)).0
 
 pub commit-requires-clause-y_lt_writes : goal.commit-requires-clause-y_lt_writes
-commit-requires-clause-y_lt_writes c = (fits_as c.requires.fitting (is_5 _ _ _ _ c.if-kind-eq-COMMIT.true)).1
-
-pub returns-then-kind-eq-COMMIT : goal.returns-then-kind-eq-COMMIT
-returns-then-kind-eq-COMMIT c =
-    search (took_as, is_5)
-
-pub respond-requires-clause-good : goal.respond-requires-clause-good
-respond-requires-clause-good c =
-    let fit = fits_as c.requires.fitting (is_6 _ _ _ _ c.if-kind-eq-RESPOND.true) in
-    c.requires.good
+commit-requires-clause-y_lt_writes c =
+    (fits_as c.requires (is_commit c.args.value c.from-x.ensures c.from-y.ensures c.in-Commit.is)).1
 
 pub respond-requires-clause-t_lt_threads : goal.respond-requires-clause-t_lt_threads
 respond-requires-clause-t_lt_threads c =
-    let fit = fits_as c.requires.fitting (is_6 _ _ _ _ c.if-kind-eq-RESPOND.true) in
-    fit.0
+    (fits_as c.requires (is_respond c.args.value c.from-x.ensures c.from-y.ensures c.in-Respond.is)).0
 
 pub respond-requires-clause-a_lt_addresses : goal.respond-requires-clause-a_lt_addresses
 respond-requires-clause-a_lt_addresses c =
-    let fit = fits_as c.requires.fitting (is_6 _ _ _ _ c.if-kind-eq-RESPOND.true) in
-    fit.1
+    (fits_as c.requires (is_respond c.args.value c.from-x.ensures c.from-y.ensures c.in-Respond.is)).1
 
-pub returns-then-kind-eq-RESPOND : goal.returns-then-kind-eq-RESPOND
-returns-then-kind-eq-RESPOND c =
-    search (took_as, is_6)
+pub acknowledge-requires : goal.acknowledge-requires
+acknowledge-requires c =
+    fits_as c.requires (is_acknowledge _ _ c.from-x.ensures c.in-Acknowledge.is)
 
-pub acknowledge-requires-clause-good : goal.acknowledge-requires-clause-good
-acknowledge-requires-clause-good c =
-    c.requires.good
+pub returns-in-AcceptWrite : goal.returns-in-AcceptWrite
+returns-in-AcceptWrite c =
+    took_write (is_write c.args.value c.from-x.ensures c.from-y.ensures c.in-AcceptWrite.is) c.accept_write.ensures
 
-pub acknowledge-requires-clause-b_lt_barriers : goal.acknowledge-requires-clause-b_lt_barriers
-acknowledge-requires-clause-b_lt_barriers c =
-    fits_as {u = acknowledge c.args.first} c.requires.fitting (search is_7)
+pub returns-in-AcceptBarrier : goal.returns-in-AcceptBarrier
+returns-in-AcceptBarrier c =
+    took_barrier (is_barrier c.args.value c.from-x.ensures c.from-y.ensures c.in-AcceptBarrier.is) c.accept_barrier.ensures
 
-pub returns : goal.returns
-returns c =
-    search (took_as, is_7)
+pub returns-in-PropagateWrite : goal.returns-in-PropagateWrite
+returns-in-PropagateWrite c =
+    took_as (is_propagate_write c.args.value c.from-x.ensures c.from-y.ensures c.in-PropagateWrite.is) c.propagate_write.ensures
+
+pub returns-in-PropagateBarrier : goal.returns-in-PropagateBarrier
+returns-in-PropagateBarrier c =
+    took_as (is_propagate_barrier c.args.value c.from-x.ensures c.from-y.ensures c.in-PropagateBarrier.is) c.propagate_barrier.ensures
+
+pub returns-in-Commit : goal.returns-in-Commit
+returns-in-Commit c =
+    took_as (is_commit c.args.value c.from-x.ensures c.from-y.ensures c.in-Commit.is) c.commit.ensures
+
+pub returns-in-Respond : goal.returns-in-Respond
+returns-in-Respond c =
+    took_as (is_respond c.args.value c.from-x.ensures c.from-y.ensures c.in-Respond.is) c.respond.ensures
+
+pub returns-in-Acknowledge : goal.returns-in-Acknowledge
+returns-in-Acknowledge c =
+    took_as (is_acknowledge _ _ c.from-x.ensures c.in-Acknowledge.is) c.acknowledge.ensures

@@ -4,4 +4,4 @@ use Rattle.traces.proofs.unread.Goals as goal
 
 pub returns : goal.returns
 returns c =
-    search no_end
+    rw c.from.ensures (no_end _ 0 _ 0 _ c.empty.ensures)
