@@ -111,13 +111,14 @@ fn run(trace: &Trace, length: usize) -> TraceAnswer
     for i in 0..trace.steps {
         let kind = kind_at(trace, i);
         let state = State { storage: &end };
-        match step(
+        let taken = step(
             &state,
             kind,
             trace.first[i],
             trace.second[i],
             trace.value[i],
-        ) {
+        );
+        match taken {
             Ok(next) => end = next,
             Err(condition) => return not_enabled(i, condition),
         }

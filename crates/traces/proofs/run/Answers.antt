@@ -6,8 +6,8 @@ pub loop-i-init : goal.loop-i-init
 loop-i-init c =
     turn_begun _ c.requires _ c.start-end.ensures
 
-pub step-requires : goal.step-requires
-step-requires c =
+pub step-taken-requires : goal.step-taken-requires
+step-taken-requires c =
     rw c.kind_at-kind.ensures (turn_fits _ _ _ c.loop-i.invariant c.loop-i-test.true)
 
 pub returns-in-Err : goal.returns-in-Err
