@@ -1,3 +1,4 @@
 pub mod Runs
 pub mod Taken
+pub mod Pairs
 pub mod Parts

@@ -15,14 +15,13 @@ use Rattle.finite.proofs.Lists.{table-length, table-snoc, each_append}
 use Rattle.bits.specs.Bit.{bit}
 use Rattle.bits.proofs.Bits.{bit_left}
 use Rattle.number.specs.Number.{encode, splice}
-use Rattle.model.specs.Limits.{second, most_events, most_dependencies}
+use Rattle.model.specs.Limits.{second, most_events}
 use Rattle.model.specs.Case.{Dependency}
 use Rattle.model.specs.Record.{Pair}
 use Rattle.model.specs.Written.{event_bytes, dependency_bytes, dependencies_bytes, pair_bytes, row_pairs, rows_pairs, order_bytes, record_of}
 use Rattle.model.specs.Answers.{put}
 use Rattle.case.specs.declared.Case.{Case as Held}
 use Rattle.case.specs.Held.{events_of, link_count, link, links_of, case_of}
-use Rattle.case.specs.Sound.{Sound}
 use Rattle.case.specs.Stores.{store_at, writes_at}
 use Rattle.case.proofs.Means.{writes-of}
 use Rattle.writer.specs.Stages.{run, sum, initial_at, event_at, listing_bytes, link_at, links_bytes, entry_at, writes_of, bit_bytes, row_at, pairs_at, pairs, order_at, byte_at, name_bytes, rest_bytes}
@@ -184,9 +183,6 @@ module _ (c : Held) where
   module _ (i : ℕ) (e : i ≡ link_count c.edition c.dependencies) where
     abbrev pub links : List ℕ
     links = links_bytes c.edition c.class c.from c.to i
-
-    pub links_few : Sound c → i ≤ most_dependencies
-    links_few h = rw e h.links_most
 
     links_are : dependencies_bytes c.edition (case_of c).dependencies ≡ links
     unfolding case_of dependencies_bytes links_of links_bytes link_at

@@ -19,8 +19,7 @@ use Rattle.case.specs.Held.{event_of, link}
 use Rattle.case.proofs.Events.{event_by}
 use Rattle.case.specs.Stores.{store_at}
 use Rattle.finite.specs.Tests.{count}
-use Rattle.model.specs.Limits.{most_events}
-use Rattle.writer.specs.Stages.{run, sum, entry_at, writes_of, bit_bytes, row_at, pairs, order_at, byte_at, name_bytes}
+use Rattle.writer.specs.Stages.{run, sum, entry_at, writes_of, row_at, pairs, order_at, byte_at, name_bytes}
 
 -- ---- runs
 pub run_more : (h : ℕ → List ℕ) (i : ℕ) → run h (i + 1) ≡ run h i ++ h i
@@ -114,11 +113,7 @@ pub stores-run : (kinds addresses writes : List ℕ) (k x n : ℕ) → n ≡ cou
 unfolding writes_of
 stores-run kinds addresses writes k x n e = rw e
 
--- ---- the bytes of a row, and of an order of n pairs
-pub row_run : (rows : List ℕ) (p k a row : ℕ) → row ≡ get_or rows (p * most_events + a) 0 → row_at rows p k a ≡ run (bit_bytes row a) k
-unfolding row_at
-row_run rows p k a row e = rw e
-
+-- ---- the bytes of an order of n pairs
 pub order_parts : (rows : List ℕ) (k p n : ℕ) → n ≡ pairs rows p k → order_at rows k p ≡ encode n ++ run (row_at rows p k) k
 unfolding order_at
 order_parts rows k p n e = rw e

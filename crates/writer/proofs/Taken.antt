@@ -1,7 +1,7 @@
 -- What the laws of a sink give a stage of two parts or three, and a run.
 -- Assumes nothing.
 use Prim.Native.Nat.{ℕ, zero, suc, ◌+◌, ◌*◌, ◌≤◌, ◌<◌}
-use native.Mathlib.Nat.{add-mul, one-mul, le_antisymm, mul-le-mul_right, le_of_suc-le-suc, eq-or-lt_of_le}
+use native.Mathlib.Nat.{le_trans, add-mul, one-mul, le_antisymm, mul-le-mul_right, le_of_suc-le-suc, eq-or-lt_of_le}
 use native.Mathlib.Omega.{arith}
 use mathlib.Core.Path.{◌≡◌, sym, ap, subst, ◌∙◌}
 use mathlib.Core.Logic.{⊎_elim}
@@ -91,3 +91,8 @@ module _ {S : Type 0} {may : S → ℕ → List ℕ → Type 0} {took : S → �
 
     pub all_taken : {s t : S} {n i : ℕ} → n ≤ room → may s (room * most) (run h n) → took s (i * most) (run h i) t → i ≤ n → n ≤ i → took s (room * most) (run h n) t
     all_taken r m g w l = took_more (mul-le-mul_right most r) m (rw (le_antisymm w l) at g)
+
+    -- parts without bytes are passed over
+    pub took_past : {s t : S} {n i j : ℕ} → n ≤ room → may s (room * most) (run h n) → took s (i * most) (run h i) t → i ≤ j → j ≤ n → run h j ≡ run h i → took s (j * most) (run h j) t
+    took_past {s} {t} {n} {i} {j} r m g w l e =
+        took_more (mul-le-mul_right most w) (may_fewer (mul-le-mul_right most (le_trans l r)) (may_run h n j l m)) (took_same e g)

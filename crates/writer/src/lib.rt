@@ -8,7 +8,7 @@ ghost use Rattle.model.specs.Written.{record_of};
 ghost use Rattle.model.specs.Answers.{put as put_of};
 ghost use Rattle.case.specs.Held.{case_of};
 ghost use Rattle.case.specs.Sound.{Sound};
-ghost use Rattle.writer.specs.Stages.{run, initial_at, event_at, listing_bytes, link_at, links_bytes, entry_at, writes_of, bit_bytes, row_at, pairs, order_at, name_bytes, rest_bytes, most_number, most_two, most_three, most_event, most_listing, most_links, most_entries, most_row, most_order, most_rest, most_record};
+ghost use Rattle.writer.specs.Stages.{run, initial_at, event_at, listing_bytes, link_at, links_bytes, entry_at, writes_of, row_at, pairs, order_at, name_bytes, rest_bytes, most_number, most_two, most_three, most_event, most_listing, most_links, most_entries, most_row, most_order, most_rest, most_record};
 ghost use Rattle.writer.specs.Sinks.{SinkLaws, may_count, Counted, may_write, Wrote};
 ghost use Rattle.writer.specs.SinksKeep.{counter_laws, writer_laws};
 ghost use Rattle.writer.specs.Stored.{stored_of};
@@ -155,17 +155,6 @@ fn put_link<S: Sink>(sink: &mut S, c: &Case, j: usize)
     );
 }
 
-// The pair a, b if it stands in a's row.
-fn put_bit<S: Sink>(sink: &mut S, row: u64, a: usize, b: usize)
-    requires within { (a < most_events) × (b < most_events) }
-    requires may { S.may sink.old most_two (bit_bytes row a b) }
-    ensures { S.took sink.old most_two (bit_bytes row a b) sink.new }
-{
-    if bits::has(row, b) {
-        put_two(sink, a as u32, b as u32);
-    }
-}
-
 // The initial values.
 fn put_initials<S: Sink>(sink: &mut S, c: &Case)
     requires sound { Sound c.now }
@@ -263,9 +252,8 @@ fn put_row<S: Sink>(sink: &mut S, c: &Case, p: usize, a: usize)
     requires may { S.may sink.old most_row (row_at c.now.rows p c.now.events a) }
     ensures { S.took sink.old most_row (row_at c.now.rows p c.now.events a) sink.new }
 {
-    let row = row(&c.rows, p, a);
-    for b in 0..c.events {
-        put_bit(sink, row, a, b);
+    for b in bits::members_below(row(&c.rows, p, a), c.events) {
+        put_two(sink, a as u32, b as u32);
     }
 }
 
