@@ -130,9 +130,6 @@ and_both a b x h g = ap₂ (λ s t. s && t && x) (sym h) (sym g)
 pub and_second : (a b x : Bool) → a ≡ true → b ≡ false → false ≡ (a && b && x)
 and_second a b x h g = ap₂ (λ s t. s && t && x) (sym h) (sym g)
 
-pub and_first : (a b x : Bool) → a ≡ false → false ≡ (a && b && x)
-and_first a b x h = ap (λ s. s && b && x) (sym h)
-
 three : (f n x : Bool) → (f && x && n) ≡ (f && n && x)
 three true true true = refl
 three true true false = refl

@@ -12,7 +12,7 @@ ghost use Rattle.values.specs.Parts.{equal_in, thread_in, supplied, explained, o
 
 use case::Case;
 
-// Load l of those judged holds the initial value, or some store to its address comes before it.
+// Load l, one of the judged, holds the initial value, or some store to its address comes before it.
 fn supplied_load(
     judged: u64,
     fresh: u64,
@@ -26,18 +26,11 @@ fn supplied_load(
     requires k_le_most_events { k ≤ most_events }
     requires p_lt_most_threads { p < most_threads }
     requires l_lt_k { l < k }
+    requires l_value { bit judged l ≡ true }
     ensures { result ≡ supplied k (bit judged) (bit fresh) (store_in stores partners.now) (order_in asked.now p) l }
 {
-    if bits::has(judged, l) {
-        if bits::has(fresh, l) {
-            true
-        } else {
-            let sources = bits::both(stores, partners[l]);
-            rows::any(rows::before_of(asked, k, p, sources, l), k)
-        }
-    } else {
-        true
-    }
+    let sources = bits::both(stores, partners[l]);
+    bits::has(fresh, l) || rows::any(rows::before_of(asked, k, p, sources, l), k)
 }
 
 // Rule 15 of thread p.
@@ -54,23 +47,9 @@ fn supplied_order(
     requires p_lt_most_threads { p < most_threads }
     ensures { result ≡ all k (supplied k (bit judged) (bit fresh) (store_in stores partners.now) (order_in asked.now p)) }
 {
-    let mut rest = bits::both(judged, bits::below(k));
-    while rest != 0 {
-        if !supplied_load(
-            judged,
-            fresh,
-            stores,
-            partners,
-            asked,
-            k,
-            p,
-            rows::lowest(rest),
-        ) {
-            return false;
-        }
-        rest = rows::but_lowest(rest);
-    }
-    true
+    bits::members_below(judged, k).all(|l| supplied_load(
+        judged, fresh, stores, partners, asked, k, p, l,
+    ))
 }
 
 // Rule 15. `judged` holds, by thread, the loads that it speaks of; `fresh` those that hold the initial value; `partners`, by
@@ -88,15 +67,10 @@ pub fn rule15<'a>(
     requires k_le_most_events { k ≤ most_events }
     ensures { result ≡ may15 n k (set_in judged.now) (bit fresh) (store_in stores partners.now) (order_in asked.now) }
 {
-    for p in 0..n {
-        if !supplied_order(judged[p], fresh, stores, partners, asked, k, p) {
-            return false;
-        }
-    }
-    true
+    (0..n).all(|p| supplied_order(judged[p], fresh, stores, partners, asked, k, p))
 }
 
-// Of those, store s: another lies between s and load l, or the values are equal, or l comes before s.
+// Store s, one of those: another lies between s and load l, or the values are equal, or l comes before s.
 fn explained_store(
     those: u64,
     between: u64,
@@ -111,22 +85,13 @@ fn explained_store(
     requires p_lt_most_threads { p < most_threads }
     requires l_lt_k { l < k }
     requires s_lt_k { s < k }
+    requires s_value { bit those s ≡ true }
     ensures { result ≡ explained k (bit those) (bit between) (equal_in values.now) (order_in asked.now p) l s }
 {
-    if bits::has(those, s) {
-        if values[l] == values[s] {
-            return true;
-        }
-        if rows::precedes(asked, p, l, s) {
-            return true;
-        }
-        rows::any(
-            rows::without(bits::both(between, rows::row(asked, p, s)), s),
-            k,
-        )
-    } else {
-        true
-    }
+    let later = bits::both(between, rows::row(asked, p, s));
+    values[l] == values[s]
+        || rows::precedes(asked, p, l, s)
+        || rows::any(rows::without(later, s), k)
 }
 
 // Every store of those.
@@ -144,17 +109,12 @@ fn explained_stores(
     requires l_lt_k { l < k }
     ensures { result ≡ all k (explained k (bit those) (bit between) (equal_in values.now) (order_in asked.now p) l) }
 {
-    let mut rest = bits::both(those, bits::below(k));
-    while rest != 0 {
-        if !explained_store(those, between, values, asked, k, p, l, rows::lowest(rest)) {
-            return false;
-        }
-        rest = rows::but_lowest(rest);
-    }
-    true
+    bits::members_below(those, k).all(|s| explained_store(
+        those, between, values, asked, k, p, l, s,
+    ))
 }
 
-// Rule 16 of thread p at load l, if it is judged.
+// Rule 16 of thread p at load l, one of the judged.
 fn overwritten_load(
     judged: u64,
     seen: u64,
@@ -169,15 +129,12 @@ fn overwritten_load(
     requires k_le_most_events { k ≤ most_events }
     requires p_lt_most_threads { p < most_threads }
     requires l_lt_k { l < k }
+    requires l_value { bit judged l ≡ true }
     ensures { result ≡ overwritten k (bit judged) (bit seen) (store_in stores partners.now) (equal_in values.now) (order_in asked.now p) l }
 {
-    if bits::has(judged, l) {
-        let sources = bits::both(stores, partners[l]);
-        let between = rows::before_of(asked, k, p, sources, l);
-        explained_stores(bits::both(sources, seen), between, values, asked, k, p, l)
-    } else {
-        true
-    }
+    let sources = bits::both(stores, partners[l]);
+    let between = rows::before_of(asked, k, p, sources, l);
+    explained_stores(bits::both(sources, seen), between, values, asked, k, p, l)
 }
 
 // Rule 16 of thread p.
@@ -195,24 +152,9 @@ fn overwritten_order(
     requires p_lt_most_threads { p < most_threads }
     ensures { result ≡ all k (overwritten k (bit judged) (bit seen) (store_in stores partners.now) (equal_in values.now) (order_in asked.now p)) }
 {
-    let mut rest = bits::both(judged, bits::below(k));
-    while rest != 0 {
-        if !overwritten_load(
-            judged,
-            seen,
-            stores,
-            partners,
-            values,
-            asked,
-            k,
-            p,
-            rows::lowest(rest),
-        ) {
-            return false;
-        }
-        rest = rows::but_lowest(rest);
-    }
-    true
+    bits::members_below(judged, k).all(|l| overwritten_load(
+        judged, seen, stores, partners, values, asked, k, p, l,
+    ))
 }
 
 // Rule 16. `seen` holds, by thread, the events that it sees.
@@ -230,12 +172,7 @@ pub fn rule16<'a>(
     requires k_le_most_events { k ≤ most_events }
     ensures { result ≡ may16 n k (set_in judged.now) (set_in seen.now) (store_in stores partners.now) (equal_in values.now) (order_in asked.now) }
 {
-    for p in 0..n {
-        if !overwritten_order(judged[p], seen[p], stores, partners, values, asked, k, p) {
-            return false;
-        }
-    }
-    true
+    (0..n).all(|p| overwritten_order(judged[p], seen[p], stores, partners, values, asked, k, p))
 }
 
 // Event e comes before every event of the set in thread q's order.
@@ -267,12 +204,7 @@ fn leads_everywhere(
     requires e_lt_k { e < k }
     ensures { result ≡ all n (λ q. all k (λ g. bit set g ⇒ order_in asked.now q e g)) }
 {
-    for q in 0..n {
-        if !leads(asked, k, set, e, q) {
-            return false;
-        }
-    }
-    true
+    (0..n).all(|q| leads(asked, k, set, e, q))
 }
 
 // Of the set, what barrier f orders after event e: `light` holds, by event, what a light one does.
@@ -288,7 +220,7 @@ fn ordered_after(set: u64, syncs: u64, light: &[u64; Case::MOST_EVENTS], f: usiz
     }
 }
 
-// Event e, if it is one of the first, comes before what barrier f orders after it, in every thread's order.
+// Event e, one of the first, comes before what barrier f orders after it, in every thread's order.
 fn carried_event(
     first: u64,
     then: u64,
@@ -304,13 +236,10 @@ fn carried_event(
     requires k_le_most_events { k ≤ most_events }
     requires f_lt_k { f < k }
     requires e_lt_k { e < k }
+    requires e_value { bit first e ≡ true }
     ensures { result ≡ (bit first e ⇒ all n (λ q. all k (λ g. (bit then g && applicable_in syncs light.now f e g) ⇒ order_in asked.now q e g))) }
 {
-    if bits::has(first, e) {
-        leads_everywhere(asked, n, k, ordered_after(then, syncs, light, f, e), e)
-    } else {
-        true
-    }
+    leads_everywhere(asked, n, k, ordered_after(then, syncs, light, f, e), e)
 }
 
 // Every event of the first set comes before every event of the second that barrier f orders after it.
@@ -329,51 +258,9 @@ fn carried(
     requires f_lt_k { f < k }
     ensures { result ≡ carried_of k n (bit first) (bit then) (applicable_in syncs light.now f) (order_in asked.now) }
 {
-    let mut rest = bits::both(first, bits::below(k));
-    while rest != 0 {
-        let e = rows::lowest(rest);
-        if !carried_event(first, then, syncs, light, f, asked, n, k, e) {
-            return false;
-        }
-        rest = rows::but_lowest(rest);
-    }
-    true
-}
-
-// Where f is one of the fences: every event before f in thread p's order comes before every event of the second set that f orders
-// after it.
-fn carried_past(
-    fences: u64,
-    then: u64,
-    syncs: u64,
-    light: &[u64; Case::MOST_EVENTS],
-    known: &[u64; Case::MOST_THREADS * Case::MOST_EVENTS],
-    asked: &[u64; Case::MOST_THREADS * Case::MOST_EVENTS],
-    n: usize,
-    k: usize,
-    p: usize,
-    f: usize,
-) -> bool
-    requires n_le_most_threads { n ≤ most_threads }
-    requires k_le_most_events { k ≤ most_events }
-    requires p_lt_most_threads { p < most_threads }
-    requires f_lt_k { f < k }
-    ensures { result ≡ (bit fences f ⇒ carried_of k n (λ e. order_in known.now p e f) (bit then) (applicable_in syncs light.now f) (order_in asked.now)) }
-{
-    if bits::has(fences, f) {
-        carried(
-            rows::before(known, k, p, f),
-            then,
-            syncs,
-            light,
-            f,
-            asked,
-            n,
-            k,
-        )
-    } else {
-        true
-    }
+    bits::members_below(first, k).all(|e| carried_event(
+        first, then, syncs, light, f, asked, n, k, e,
+    ))
 }
 
 // The events of the set that come after f, in p's order.
@@ -388,6 +275,31 @@ fn after_of(
     ensures { Set result (λ e. bit set e && order_in known.now p f e) }
 {
     bits::both(set, rows::row(known, p, f))
+}
+
+// Rule 17 at barrier f of thread p.
+fn cumulative_barrier(
+    own: u64,
+    barriers: u64,
+    syncs: u64,
+    light: &[u64; Case::MOST_EVENTS],
+    known: &[u64; Case::MOST_THREADS * Case::MOST_EVENTS],
+    asked: &[u64; Case::MOST_THREADS * Case::MOST_EVENTS],
+    n: usize,
+    k: usize,
+    p: usize,
+    f: usize,
+) -> bool
+    requires n_le_most_threads { n ≤ most_threads }
+    requires k_le_most_events { k ≤ most_events }
+    requires p_lt_most_threads { p < most_threads }
+    requires f_lt_k { f < k }
+    requires f_value { (bit barriers f && bit own f) ≡ true }
+    ensures { result ≡ cumulative k n (bit own) (bit barriers) (applicable_in syncs light.now) (order_in known.now p) (order_in asked.now) f }
+{
+    let first = rows::before(known, k, p, f);
+    let then = after_of(known, p, own, f);
+    carried(first, then, syncs, light, f, asked, n, k)
 }
 
 // Rule 17 of thread p.
@@ -408,16 +320,9 @@ fn cumulative_order(
     ensures { result ≡ all k (cumulative k n (bit own) (bit barriers) (applicable_in syncs light.now) (order_in known.now p) (order_in asked.now)) }
 {
     let fences = bits::both(barriers, own);
-    let mut rest = bits::both(fences, bits::below(k));
-    while rest != 0 {
-        let f = rows::lowest(rest);
-        let then = after_of(known, p, own, f);
-        if !carried_past(fences, then, syncs, light, known, asked, n, k, p, f) {
-            return false;
-        }
-        rest = rows::but_lowest(rest);
-    }
-    true
+    bits::members_below(fences, k).all(|f| cumulative_barrier(
+        own, barriers, syncs, light, known, asked, n, k, p, f,
+    ))
 }
 
 // Rule 17. `own` holds each thread's events; `light`, by event, what a light barrier orders after it; of the barriers, the
@@ -436,12 +341,7 @@ pub fn rule17<'a>(
     requires k_le_most_events { k ≤ most_events }
     ensures { result ≡ may17 n k (set_in own.now) (bit barriers) (applicable_in syncs light.now) (order_in known.now) (order_in asked.now) }
 {
-    for p in 0..n {
-        if !cumulative_order(own[p], barriers, syncs, light, known, asked, n, k, p) {
-            return false;
-        }
-    }
-    true
+    (0..n).all(|p| cumulative_order(own[p], barriers, syncs, light, known, asked, n, k, p))
 }
 
 // Load l must read from s, one of its sources: every rival comes before s.
@@ -458,24 +358,18 @@ fn must_read(
     requires t_lt_most_threads { t < most_threads }
     requires l_lt_k { l < k }
     requires s_lt_k { s < k }
+    requires s_value { bit sources s ≡ true }
     ensures { result ≡ must_read_of k (bit sources) (bit rivals) (order_in known.now t) l s }
 {
-    if bits::has(sources, s) {
-        if rows::precedes(known, t, s, l) {
-            bits::inside_below(
-                rivals,
-                bits::with(rows::before_of(known, k, t, rivals, s), s),
-                k,
-            )
-        } else {
-            false
-        }
-    } else {
-        false
-    }
+    rows::precedes(known, t, s, l)
+        && bits::inside_below(
+            rivals,
+            bits::with(rows::before_of(known, k, t, rivals, s), s),
+            k,
+        )
 }
 
-// Store s, if load l must read from it.
+// Store s, one of the sources of load l, if it must read from it.
 fn read_store(
     sources: u64,
     rivals: u64,
@@ -489,6 +383,7 @@ fn read_store(
     requires t_lt_most_threads { t < most_threads }
     requires l_lt_k { l < k }
     requires s_lt_k { s < k }
+    requires s_value { bit sources s ≡ true }
     ensures { Set result (λ e. must_read_of k (bit sources) (bit rivals) (order_in known.now t) l s && eqb e s) }
 {
     rows::where_so(
@@ -512,10 +407,8 @@ fn read_stores(
     ensures { Set result (λ s. ltb s k && must_read_of k (bit sources) (bit rivals) (order_in known.now t) l s) }
 {
     let mut found: u64 = 0;
-    let mut rest = bits::both(sources, bits::below(k));
-    while rest != 0 {
-        found = found | read_store(sources, rivals, known, k, t, l, rows::lowest(rest));
-        rest = rows::but_lowest(rest);
+    for s in bits::members_below(sources, k) {
+        found |= read_store(sources, rivals, known, k, t, l, s);
     }
     found
 }
@@ -537,7 +430,7 @@ fn read_by(
     ensures { Set result (λ s. ltb s k && must_read k (bit loads) (store_in stores partners.now) (thread_in threads.now) (order_in known.now) (order_in asked.now) l s) }
 {
     if bits::has(loads, l) {
-        let t = threads[l] as usize;
+        let t = usize::from(threads[l]);
         let sources = bits::both(stores, partners[l]);
         let rivals = rows::before_of(asked, k, t, sources, l);
         read_stores(sources, rivals, known, k, t, l)
@@ -582,7 +475,7 @@ fn reached_by(
     ensures { Set result (λ g. some k (λ s. set_in read.now l s && bit set s) && order_in known.now (thread_in threads.now l) l g) }
 {
     let reads_it = rows::any(bits::both(read[l], set), k);
-    rows::where_so(reads_it, rows::row(known, threads[l] as usize, l))
+    rows::where_so(reads_it, rows::row(known, usize::from(threads[l]), l))
 }
 
 // What comes after a load that must read from an event of the set, in its thread's order.
@@ -599,7 +492,7 @@ fn reached(
 {
     let mut found: u64 = 0;
     for l in 0..k {
-        found = found | reached_by(read, threads, known, k, set, l);
+        found |= reached_by(read, threads, known, k, set, l);
     }
     found
 }
@@ -625,6 +518,35 @@ fn reached_from(
     reached(read, threads, known, k, those)
 }
 
+// Rule 18 at barrier f of thread p.
+fn carried_on_barrier(
+    own: u64,
+    barriers: u64,
+    syncs: u64,
+    light: &[u64; Case::MOST_EVENTS],
+    stores: u64,
+    read: &[u64; Case::MOST_EVENTS],
+    threads: &[u8; Case::MOST_EVENTS],
+    known: &[u64; Case::MOST_THREADS * Case::MOST_EVENTS],
+    asked: &[u64; Case::MOST_THREADS * Case::MOST_EVENTS],
+    n: usize,
+    k: usize,
+    p: usize,
+    f: usize,
+) -> bool
+    requires n_le_most_threads { n ≤ most_threads }
+    requires k_le_most_events { k ≤ most_events }
+    requires p_lt_most_threads { p < most_threads }
+    requires f_lt_k { f < k }
+    requires f_value { (bit barriers f && bit own f) ≡ true }
+    requires by_index { (l : ℕ) → l < k → get_or threads.now l 0 < most_threads }
+    ensures { result ≡ carried_on k n (bit own) (bit barriers) (applicable_in syncs light.now) (bit stores) (set_in read.now) (thread_in threads.now) p (order_in known.now) (order_in asked.now) f }
+{
+    let before = rows::before(known, k, p, f);
+    let then = reached_from(own, stores, read, threads, known, k, p, f);
+    carried(before, then, syncs, light, f, asked, n, k)
+}
+
 // Rule 18 of thread p.
 fn carried_on_order(
     own: u64,
@@ -647,16 +569,11 @@ fn carried_on_order(
     ensures { result ≡ all k (carried_on k n (bit own) (bit barriers) (applicable_in syncs light.now) (bit stores) (set_in read.now) (thread_in threads.now) p (order_in known.now) (order_in asked.now)) }
 {
     let fences = bits::both(barriers, own);
-    let mut rest = bits::both(fences, bits::below(k));
-    while rest != 0 {
-        let f = rows::lowest(rest);
-        let then = reached_from(own, stores, read, threads, known, k, p, f);
-        if !carried_past(fences, then, syncs, light, known, asked, n, k, p, f) {
-            return false;
-        }
-        rest = rows::but_lowest(rest);
-    }
-    true
+    bits::members_below(fences, k).all(|f| {
+        carried_on_barrier(
+            own, barriers, syncs, light, stores, read, threads, known, asked, n, k, p, f,
+        )
+    })
 }
 
 // Rule 18. `read` holds, by load, the stores from which it must read.
@@ -678,12 +595,9 @@ pub fn rule18<'a>(
     requires by_index { (l : ℕ) → l < k → get_or threads.now l 0 < most_threads }
     ensures { result ≡ may18 n k (set_in own.now) (bit barriers) (applicable_in syncs light.now) (bit stores) (set_in read.now) (thread_in threads.now) (order_in known.now) (order_in asked.now) }
 {
-    for p in 0..n {
-        if !carried_on_order(
+    (0..n).all(|p| {
+        carried_on_order(
             own[p], barriers, syncs, light, stores, read, threads, known, asked, n, k, p,
-        ) {
-            return false;
-        }
-    }
-    true
+        )
+    })
 }

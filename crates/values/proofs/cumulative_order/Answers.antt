@@ -1,63 +1,19 @@
 -- `values::cumulative_order` meets its contract. Assumes nothing.
 use borrow.Author.Rules.{rules}
-use native.Mathlib.Omega.{arith}
+use borrow.Author.Tests.{tests}
 use mathlib.Core.Path.{sym, ◌∙◌}
-use Rattle.rows.proofs.Visits.{visit_all, visit_in, visit_fails, visit_next, visit_ends, lowest_less}
-use Rattle.rows.proofs.SetLaws.{masked}
 use Rattle.finite.proofs.Tests.{imp_no}
-use Rattle.values.proofs.Laws.{fences_set, cumulative_at}
+use Rattle.bits.specs.Bit.{bit}
+use Rattle.rows.specs.Sets.{order_in, applicable_in}
+use Rattle.values.specs.Parts.{cumulative}
+use Rattle.values.proofs.Laws.{fences_set}
+use Rattle.values.proofs.Members.{serves_members, all_members}
 use Rattle.values.proofs.cumulative_order.Goals as goal
 
-pub loop-rest-init : goal.loop-rest-init
-loop-rest-init c =
-    visit_all c.both-rest.type_inv (masked c.args.k c.both-fences.result c.both-rest.ensures c.below.ensures) (λ i h. imp_no _ _ (sym ((fences_set c.args.barriers c.args.own c.both-fences.ensures).has i) ∙ h))
-
-pub after_of-then-requires-clause-p_lt_most_threads : goal.after_of-then-requires-clause-p_lt_most_threads
-after_of-then-requires-clause-p_lt_most_threads c =
-    let b = visit_in c.loop-rest.invariant c.loop-rest-test.true c.lowest-f.ensures in
-    search rules
-
-pub after_of-then-requires-clause-f_lt_most_events : goal.after_of-then-requires-clause-f_lt_most_events
-after_of-then-requires-clause-f_lt_most_events c =
-    let b = visit_in c.loop-rest.invariant c.loop-rest-test.true c.lowest-f.ensures in
-    omega arith
-
-pub carried_past-requires-clause-n_le_most_threads : goal.carried_past-requires-clause-n_le_most_threads
-carried_past-requires-clause-n_le_most_threads c =
-    let b = visit_in c.loop-rest.invariant c.loop-rest-test.true c.lowest-f.ensures in
-    search rules
-
-pub carried_past-requires-clause-k_le_most_events : goal.carried_past-requires-clause-k_le_most_events
-carried_past-requires-clause-k_le_most_events c =
-    let b = visit_in c.loop-rest.invariant c.loop-rest-test.true c.lowest-f.ensures in
-    search rules
-
-pub carried_past-requires-clause-p_lt_most_threads : goal.carried_past-requires-clause-p_lt_most_threads
-carried_past-requires-clause-p_lt_most_threads c =
-    let b = visit_in c.loop-rest.invariant c.loop-rest-test.true c.lowest-f.ensures in
-    search rules
-
-pub carried_past-requires-clause-f_lt_k : goal.carried_past-requires-clause-f_lt_k
-carried_past-requires-clause-f_lt_k c =
-    let b = visit_in c.loop-rest.invariant c.loop-rest-test.true c.lowest-f.ensures in
-    search rules
-
-pub returns-then-not-carried_past : goal.returns-then-not-carried_past
-returns-then-not-carried_past c =
-    search (visit_fails, cumulative_at)
-
-pub but_lowest-rest-requires : goal.but_lowest-rest-requires
-but_lowest-rest-requires c =
-    c.loop-rest-test.true
-
-pub loop-rest-smaller : goal.loop-rest-smaller
-loop-rest-smaller c =
-    lowest_less c.loop-rest-test.true c.but_lowest-rest.ensures
-
-pub loop-rest-preserved : goal.loop-rest-preserved
-loop-rest-preserved c =
-    search (visit_next, cumulative_at)
+pub all-requires-clause-callable : goal.all-requires-clause-callable
+all-requires-clause-callable c = serves_members c.args.k c.both-fences.result c.members_below.ensures (λ x q k. search (rules, tests)) (λ x l m. let fence = sym ((fences_set c.args.barriers c.args.own c.both-fences.ensures).has x) ∙ m in search rules)
 
 pub returns : goal.returns
 returns c =
-    visit_ends c.loop-rest.invariant c.loop-rest-test.false
+    let a = c.args in
+    all_members a.k c.both-fences.result (cumulative a.k a.n (bit a.own) (bit a.barriers) (applicable_in a.syncs a.light.now) (order_in a.known.now a.p) (order_in a.asked.now)) _ _ _ (λ x b q k. search (rules, tests)) c.all.ensures.ran c.members_below.ensures (λ i h. imp_no _ _ (sym ((fences_set a.barriers a.own c.both-fences.ensures).has i) ∙ h))

@@ -1,52 +1,17 @@
 -- `values::explained_stores` meets its contract. Assumes nothing.
 use borrow.Author.Rules.{rules}
-use Rattle.rows.proofs.Visits.{visit_all, visit_in, visit_fails, visit_next, visit_ends, lowest_less}
-use Rattle.rows.proofs.SetLaws.{masked}
+use borrow.Author.Tests.{tests}
 use Rattle.finite.proofs.Tests.{imp_no}
-use mathlib.Core.Path.{ap}
-use mathlib.Core.Bool.{not}
+use Rattle.bits.specs.Bit.{bit}
+use Rattle.rows.specs.Sets.{order_in}
+use Rattle.values.specs.Parts.{explained, equal_in}
+use Rattle.values.proofs.Members.{serves_members, all_members}
 use Rattle.values.proofs.explained_stores.Goals as goal
 
-pub loop-rest-init : goal.loop-rest-init
-loop-rest-init c =
-    visit_all c.both-rest.type_inv (masked c.args.k c.args.those c.both-rest.ensures c.below.ensures) (λ i h. imp_no _ _ (h))
-
-pub explained_store-requires-clause-k_le_most_events : goal.explained_store-requires-clause-k_le_most_events
-explained_store-requires-clause-k_le_most_events c =
-    let b = visit_in c.loop-rest.invariant c.loop-rest-test.true c.lowest.ensures in
-    search rules
-
-pub explained_store-requires-clause-p_lt_most_threads : goal.explained_store-requires-clause-p_lt_most_threads
-explained_store-requires-clause-p_lt_most_threads c =
-    let b = visit_in c.loop-rest.invariant c.loop-rest-test.true c.lowest.ensures in
-    search rules
-
-pub explained_store-requires-clause-l_lt_k : goal.explained_store-requires-clause-l_lt_k
-explained_store-requires-clause-l_lt_k c =
-    let b = visit_in c.loop-rest.invariant c.loop-rest-test.true c.lowest.ensures in
-    search rules
-
-pub explained_store-requires-clause-s_lt_k : goal.explained_store-requires-clause-s_lt_k
-explained_store-requires-clause-s_lt_k c =
-    let b = visit_in c.loop-rest.invariant c.loop-rest-test.true c.lowest.ensures in
-    search rules
-
-pub returns-then-not-explained_store : goal.returns-then-not-explained_store
-returns-then-not-explained_store c =
-    visit_fails c.loop-rest.invariant c.loop-rest-test.true c.lowest.ensures c.explained_store.ensures (ap not c.if-not-explained_store.true)
-
-pub but_lowest-rest-requires : goal.but_lowest-rest-requires
-but_lowest-rest-requires c =
-    c.loop-rest-test.true
-
-pub loop-rest-smaller : goal.loop-rest-smaller
-loop-rest-smaller c =
-    lowest_less c.loop-rest-test.true c.but_lowest-rest.ensures
-
-pub loop-rest-preserved : goal.loop-rest-preserved
-loop-rest-preserved c =
-    visit_next c.loop-rest.invariant c.loop-rest-test.true c.lowest.ensures c.explained_store.ensures (ap not c.if-not-explained_store.false) c.but_lowest-rest.ensures
+pub all-requires-clause-callable : goal.all-requires-clause-callable
+all-requires-clause-callable c = serves_members c.args.k c.args.those c.members_below.ensures (λ x q k. search (rules, tests)) (λ x l m. search rules)
 
 pub returns : goal.returns
 returns c =
-    visit_ends c.loop-rest.invariant c.loop-rest-test.false
+    let a = c.args in
+    all_members a.k a.those (explained a.k (bit a.those) (bit a.between) (equal_in a.values.now) (order_in a.asked.now a.p) a.l) _ _ _ (λ x b q k. search (rules, tests)) c.all.ensures.ran c.members_below.ensures (λ i h. imp_no _ _ h)

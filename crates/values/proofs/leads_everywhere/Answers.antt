@@ -1,28 +1,14 @@
 -- `values::leads_everywhere` meets its contract. Assumes nothing.
-use native.Mathlib.Omega.{arith}
-use Rattle.finite.proofs.Loops.{begun, fails, passes, ends}
+use borrow.Author.Rules.{rules}
+use borrow.Author.Tests.{tests}
+use mathlib.Core.Path.{refl}
+use Rattle.finite.specs.Tests.{all, ◌⇒◌}
+use Rattle.bits.specs.Bit.{bit}
+use Rattle.rows.specs.Sets.{order_in}
+use Rattle.values.proofs.Members.{all_range}
 use Rattle.values.proofs.leads_everywhere.Goals as goal
-
-pub loop-q-init : goal.loop-q-init
-loop-q-init c =
-    begun
-
-pub returns-then-not-leads : goal.returns-then-not-leads
-returns-then-not-leads c =
-    search fails
-
-pub overflow_step-q : goal.overflow_step-q
-overflow_step-q c =
-    omega arith
-
-pub loop-q-smaller : goal.loop-q-smaller
-loop-q-smaller c =
-    omega arith
-
-pub loop-q-preserved : goal.loop-q-preserved
-loop-q-preserved c =
-    search passes
 
 pub returns : goal.returns
 returns c =
-    search ends
+    let a = c.args in
+    all_range (λ q. all a.k (λ g. bit a.set g ⇒ order_in a.asked.now q a.e g)) _ _ _ c.all.ensures.ran refl (λ x b q k. search (rules, tests))

@@ -1,25 +1,27 @@
 -- `values::must_read` meets its contract. Assumes nothing.
 use mathlib.Core.Path.{refl, sym, ◌∙◌}
-use mathlib.Core.Bool.{not, ◌&&◌}
-use lib.Dec.{eqb}
 use Rattle.finite.specs.Tests.{all, ◌⇒◌}
-use Rattle.rows.specs.Sets.{order_in}
 use Rattle.bits.specs.Bit.{bit}
-use Rattle.rows.proofs.SetLaws.{inside-set, as_set, set_with}
-use Rattle.values.proofs.Laws.{read_all, and_both, and_second, and_first}
+use Rattle.rows.specs.Sets.{order_in}
+use mathlib.Core.Bool.{◌&&◌, not, Bool}
+use Rattle.rows.proofs.SetLaws.{as_set, set_with, inside-set}
+use Rattle.values.proofs.Laws.{read_all, and_both, and_second}
+use lib.Dec.{eqb}
+use Prim.Native.Nat.{ℕ}
 use Rattle.values.proofs.must_read.Goals as goal
 
 pub returns-then-precedes : goal.returns-then-precedes
 returns-then-precedes c =
+    let a = c.args in
+    let after : ℕ → ℕ → Bool = order_in a.known.now a.t in
     c.inside_below.ensures
-    ∙ inside-set c.args.k (as_set refl) (set_with c.args.s c.with.ensures c.before_of.ensures)
-    ∙ read_all c.args.k (bit c.args.rivals) (order_in c.args.known.now c.args.t) c.args.s
-    ∙ and_both (bit c.args.sources c.args.s) (order_in c.args.known.now c.args.t c.args.s c.args.l) (all c.args.k (λ x. (bit c.args.rivals x && not (eqb x c.args.s)) ⇒ order_in c.args.known.now c.args.t x c.args.s)) (sym c.has.ensures ∙ c.if-has.true) (sym c.precedes.ensures ∙ c.if-precedes.true)
+    ∙ inside-set a.k (as_set refl) (set_with a.s c.with.ensures c.before_of.ensures)
+    ∙ read_all a.k (bit a.rivals) after a.s
+    ∙ and_both (bit a.sources a.s) (after a.s a.l) (all a.k (λ x. (bit a.rivals x && not (eqb x a.s)) ⇒ after x a.s)) c.requires.s_value (sym c.precedes.ensures ∙ c.if-precedes.true)
 
 pub returns-else-precedes : goal.returns-else-precedes
 returns-else-precedes c =
-    and_second (bit c.args.sources c.args.s) (order_in c.args.known.now c.args.t c.args.s c.args.l) (all c.args.k (λ x. (bit c.args.rivals x && not (eqb x c.args.s)) ⇒ order_in c.args.known.now c.args.t x c.args.s)) (sym c.has.ensures ∙ c.if-has.true) (sym c.precedes.ensures ∙ c.if-precedes.false)
-
-pub returns-else-has : goal.returns-else-has
-returns-else-has c =
-    and_first (bit c.args.sources c.args.s) (order_in c.args.known.now c.args.t c.args.s c.args.l) (all c.args.k (λ x. (bit c.args.rivals x && not (eqb x c.args.s)) ⇒ order_in c.args.known.now c.args.t x c.args.s)) (sym c.has.ensures ∙ c.if-has.false)
+    let a = c.args in
+    let after : ℕ → ℕ → Bool = order_in a.known.now a.t in
+    c.if-precedes.false
+    ∙ and_second (bit a.sources a.s) (after a.s a.l) (all a.k (λ x. (bit a.rivals x && not (eqb x a.s)) ⇒ after x a.s)) c.requires.s_value (sym c.precedes.ensures ∙ c.if-precedes.false)

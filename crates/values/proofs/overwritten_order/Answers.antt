@@ -1,47 +1,17 @@
 -- `values::overwritten_order` meets its contract. Assumes nothing.
 use borrow.Author.Rules.{rules}
-use Rattle.rows.proofs.Visits.{visit_all, visit_in, visit_fails, visit_next, visit_ends, lowest_less}
-use Rattle.rows.proofs.SetLaws.{masked}
+use borrow.Author.Tests.{tests}
 use Rattle.finite.proofs.Tests.{imp_no}
-use mathlib.Core.Path.{ap}
-use mathlib.Core.Bool.{not}
+use Rattle.bits.specs.Bit.{bit}
+use Rattle.rows.specs.Sets.{order_in, store_in}
+use Rattle.values.specs.Parts.{overwritten, equal_in}
+use Rattle.values.proofs.Members.{serves_members, all_members}
 use Rattle.values.proofs.overwritten_order.Goals as goal
 
-pub loop-rest-init : goal.loop-rest-init
-loop-rest-init c =
-    visit_all c.both-rest.type_inv (masked c.args.k c.args.judged c.both-rest.ensures c.below.ensures) (λ i h. imp_no _ _ (h))
-
-pub overwritten_load-requires-clause-k_le_most_events : goal.overwritten_load-requires-clause-k_le_most_events
-overwritten_load-requires-clause-k_le_most_events c =
-    let b = visit_in c.loop-rest.invariant c.loop-rest-test.true c.lowest.ensures in
-    search rules
-
-pub overwritten_load-requires-clause-p_lt_most_threads : goal.overwritten_load-requires-clause-p_lt_most_threads
-overwritten_load-requires-clause-p_lt_most_threads c =
-    let b = visit_in c.loop-rest.invariant c.loop-rest-test.true c.lowest.ensures in
-    search rules
-
-pub overwritten_load-requires-clause-l_lt_k : goal.overwritten_load-requires-clause-l_lt_k
-overwritten_load-requires-clause-l_lt_k c =
-    let b = visit_in c.loop-rest.invariant c.loop-rest-test.true c.lowest.ensures in
-    search rules
-
-pub returns-then-not-overwritten_load : goal.returns-then-not-overwritten_load
-returns-then-not-overwritten_load c =
-    visit_fails c.loop-rest.invariant c.loop-rest-test.true c.lowest.ensures c.overwritten_load.ensures (ap not c.if-not-overwritten_load.true)
-
-pub but_lowest-rest-requires : goal.but_lowest-rest-requires
-but_lowest-rest-requires c =
-    c.loop-rest-test.true
-
-pub loop-rest-smaller : goal.loop-rest-smaller
-loop-rest-smaller c =
-    lowest_less c.loop-rest-test.true c.but_lowest-rest.ensures
-
-pub loop-rest-preserved : goal.loop-rest-preserved
-loop-rest-preserved c =
-    visit_next c.loop-rest.invariant c.loop-rest-test.true c.lowest.ensures c.overwritten_load.ensures (ap not c.if-not-overwritten_load.false) c.but_lowest-rest.ensures
+pub all-requires-clause-callable : goal.all-requires-clause-callable
+all-requires-clause-callable c = serves_members c.args.k c.args.judged c.members_below.ensures (λ x q k. search (rules, tests)) (λ x l m. search rules)
 
 pub returns : goal.returns
 returns c =
-    visit_ends c.loop-rest.invariant c.loop-rest-test.false
+    let a = c.args in
+    all_members a.k a.judged (overwritten a.k (bit a.judged) (bit a.seen) (store_in a.stores a.partners.now) (equal_in a.values.now) (order_in a.asked.now a.p)) _ _ _ (λ x b q k. search (rules, tests)) c.all.ensures.ran c.members_below.ensures (λ i h. imp_no _ _ h)

@@ -1,5 +1,4 @@
 -- `values::reached` meets its contract. Assumes nothing.
-use native.Mathlib.Omega.{arith}
 use Rattle.rows.proofs.Loops.{empty, joins, united}
 use Rattle.values.proofs.reached.Goals as goal
 
@@ -14,14 +13,6 @@ reached_by-found-requires-clause-l_lt_k c =
 pub reached_by-found-requires-clause-l_bound : goal.reached_by-found-requires-clause-l_bound
 reached_by-found-requires-clause-l_bound c =
     c.requires.by_index c.loop-l.l c.loop-l-test.true
-
-pub overflow_step-l : goal.overflow_step-l
-overflow_step-l c =
-    omega arith
-
-pub loop-l-smaller : goal.loop-l-smaller
-loop-l-smaller c =
-    omega arith
 
 pub loop-l-preserved : goal.loop-l-preserved
 loop-l-preserved c =

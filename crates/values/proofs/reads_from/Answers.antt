@@ -1,6 +1,5 @@
 -- `values::reads_from` meets its contract. Assumes nothing.
 use borrow.Author.Rules.{rules}
-use native.Mathlib.Omega.{arith}
 use Rattle.rows.proofs.Loops.{unfilled, fills, filled}
 use Rattle.values.proofs.reads_from.Goals as goal
 
@@ -15,14 +14,6 @@ read_by-requires-clause-l_lt_k c =
 pub read_by-requires-clause-l_bound : goal.read_by-requires-clause-l_bound
 read_by-requires-clause-l_bound c =
     c.requires.by_index c.loop-l.l c.loop-l-test.true
-
-pub overflow_step-l : goal.overflow_step-l
-overflow_step-l c =
-    omega arith
-
-pub loop-l-smaller : goal.loop-l-smaller
-loop-l-smaller c =
-    omega arith
 
 pub loop-l-preserved : goal.loop-l-preserved
 loop-l-preserved c =

@@ -1,5 +1,4 @@
 -- `values::reads_from` meets its contract. Assumes nothing.
-use Prim.Native.Nat.{◌-◌}
 use mathlib.Core.Bool.{◌&&◌}
 use lib.Dec.{ltb}
 use Rattle.rows.specs.Sets.{order_in, store_in}
@@ -11,6 +10,3 @@ use Rattle.values.proofs.reads_from.Given as goal
 
 abbrev pub invariant-loop-l : goal.invariant-loop-l
 invariant-loop-l turn = Filled turn.k (λ l s. ltb s turn.k && must_read turn.k (bit turn.loads) (store_in turn.stores turn.partners) (thread_in turn.threads) (order_in turn.known) (order_in turn.asked) l s) turn.l turn.out
-
-abbrev pub decreases-loop-l : goal.decreases-loop-l
-decreases-loop-l l = l.k - l.l
