@@ -1,33 +1,26 @@
 -- `by_columns::reached` meets its contract. Assumes nothing.
-use borrow.Author.Rules.{rules}
+use native.Mathlib.Omega.{arith}
 use mathlib.Core.Path.{refl, ap}
 use mathlib.Core.Bool.{◌&&◌}
 use Rattle.rows.specs.Sets.{set_in}
-use Rattle.rows.proofs.SetLaws.{masked, as_set}
-use Rattle.rows.proofs.Visits.{gather_none, gather_in, gather_of, gather_next, gather_all, lowest_less}
+use Rattle.rows.proofs.Each.{collect_first, event_below, event_of, collect_next, collect_end}
+use Rattle.rows.proofs.SetLaws.{as_set}
 use Rattle.by_columns.proofs.Laws.{whole}
 use Rattle.by_columns.proofs.reached.Goals as goal
 
-pub loop-rest-init : goal.loop-rest-init
-loop-rest-init c =
-    gather_none c.both-rest.type_inv (masked c.args.k c.args.set c.both-rest.ensures c.below.ensures) (λ j e h. ap (λ t. t && set_in c.args.behind.now j e) h)
+pub loop-s-init : goal.loop-s-init
+loop-s-init c =
+    collect_first c.into_iter-s-iterator.ensures.into_iter_gives c.members_below-s-items.ensures (λ j e h. ap (λ t. t && set_in c.args.behind.now j e) h)
 
-pub offset_bounds-behind-lowest : goal.offset_bounds-behind-lowest
-offset_bounds-behind-lowest c =
-    let i = gather_in c.loop-rest.invariant c.loop-rest-test.true c.lowest.ensures in search rules
+pub bounds-behind-s : goal.bounds-behind-s
+bounds-behind-s c =
+    let below = event_below c.loop-s.invariant.within c.in-Some.ensures.steps in
+    omega arith
 
-pub bounds-behind-lowest : goal.bounds-behind-lowest
-bounds-behind-lowest c =
-    let i = gather_in c.loop-rest.invariant c.loop-rest-test.true c.lowest.ensures in search rules
-
-pub loop-rest-smaller : goal.loop-rest-smaller
-loop-rest-smaller c =
-    search lowest_less
-
-pub loop-rest-preserved : goal.loop-rest-preserved
-loop-rest-preserved c =
-    gather_next c.loop-rest.invariant c.loop-rest-test.true c.lowest.ensures (whole (gather_of c.loop-rest.invariant c.loop-rest-test.true c.lowest.ensures) (as_set refl)) c.but_lowest-rest.ensures
+pub loop-s-preserved : goal.loop-s-preserved
+loop-s-preserved c =
+    collect_next c.loop-s.invariant c.in-Some.ensures.steps (whole (event_of c.loop-s.invariant.within c.in-Some.ensures.steps) (as_set refl))
 
 pub returns : goal.returns
 returns c =
-    gather_all c.loop-rest.invariant c.loop-rest-test.false
+    collect_end c.loop-s.invariant c.in-None.ensures.steps

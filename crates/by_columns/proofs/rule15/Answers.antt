@@ -1,35 +1,17 @@
 -- `by_columns::rule15` meets its contract. Assumes nothing.
-use native.Mathlib.Omega.{arith}
-use Rattle.finite.proofs.Loops.{begun, fails, passes, ends}
+use borrow.Author.Rules.{rules}
+use borrow.Author.Tests.{tests}
+use mathlib.Core.Path.{refl}
+use Rattle.finite.specs.Tests.{all}
+use Rattle.bits.specs.Bit.{bit}
+use Rattle.rows.specs.Sets.{order_in, set_in, store_in}
 use Rattle.rows.specs.May.{may15}
+use Rattle.values.specs.Parts.{supplied}
+use Rattle.values.proofs.Members.{all_range}
 use Rattle.by_columns.proofs.rule15.Goals as goal
-
-pub loop-p-init : goal.loop-p-init
-unfolding may15
-loop-p-init c =
-    begun
-
-pub returns-then-not-supplied_order : goal.returns-then-not-supplied_order
-unfolding may15
-returns-then-not-supplied_order c =
-    search fails
-
-pub overflow_step-p : goal.overflow_step-p
-unfolding may15
-overflow_step-p c =
-    omega arith
-
-pub loop-p-smaller : goal.loop-p-smaller
-unfolding may15
-loop-p-smaller c =
-    omega arith
-
-pub loop-p-preserved : goal.loop-p-preserved
-unfolding may15
-loop-p-preserved c =
-    search passes
 
 pub returns : goal.returns
 unfolding may15
 returns c =
-    search ends
+    let a = c.args in
+    all_range (λ p. all a.k (supplied a.k (set_in a.judged.now p) (bit a.fresh) (store_in a.stores a.partners.now) (order_in a.rows.now p))) _ _ _ c.all.ensures.ran refl (λ x b q k. search (rules, tests))

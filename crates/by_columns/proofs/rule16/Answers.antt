@@ -1,35 +1,16 @@
 -- `by_columns::rule16` meets its contract. Assumes nothing.
-use native.Mathlib.Omega.{arith}
-use Rattle.finite.proofs.Loops.{begun, fails, passes, ends}
+use borrow.Author.Rules.{rules}
+use borrow.Author.Tests.{tests}
+use mathlib.Core.Path.{refl}
+use Rattle.finite.specs.Tests.{all}
+use Rattle.rows.specs.Sets.{order_in, set_in, store_in}
 use Rattle.rows.specs.May.{may16}
+use Rattle.values.specs.Parts.{equal_in, overwritten}
+use Rattle.values.proofs.Members.{all_range}
 use Rattle.by_columns.proofs.rule16.Goals as goal
-
-pub loop-p-init : goal.loop-p-init
-unfolding may16
-loop-p-init c =
-    begun
-
-pub returns-then-not-overwritten_order : goal.returns-then-not-overwritten_order
-unfolding may16
-returns-then-not-overwritten_order c =
-    search fails
-
-pub overflow_step-p : goal.overflow_step-p
-unfolding may16
-overflow_step-p c =
-    omega arith
-
-pub loop-p-smaller : goal.loop-p-smaller
-unfolding may16
-loop-p-smaller c =
-    omega arith
-
-pub loop-p-preserved : goal.loop-p-preserved
-unfolding may16
-loop-p-preserved c =
-    search passes
 
 pub returns : goal.returns
 unfolding may16
 returns c =
-    search ends
+    let a = c.args in
+    all_range (λ p. all a.k (overwritten a.k (set_in a.judged.now p) (set_in a.seen.now p) (store_in a.stores a.partners.now) (equal_in a.values.now) (order_in a.rows.now p))) _ _ _ c.all.ensures.ran refl (λ x b q k. search (rules, tests))

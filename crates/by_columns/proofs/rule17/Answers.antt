@@ -1,35 +1,18 @@
 -- `by_columns::rule17` meets its contract. Assumes nothing.
-use native.Mathlib.Omega.{arith}
-use Rattle.finite.proofs.Loops.{begun, fails, passes, ends}
+use borrow.Author.Rules.{rules}
+use borrow.Author.Tests.{tests}
+use mathlib.Core.Path.{refl}
+use Rattle.finite.specs.Tests.{all}
+use Rattle.bits.specs.Bit.{bit}
+use Rattle.rows.specs.Sets.{order_in, set_in}
 use Rattle.rows.specs.May.{may17}
+use Rattle.values.specs.Parts.{cumulative}
+use Rattle.by_columns.specs.Parts.{applies_in}
+use Rattle.values.proofs.Members.{all_range}
 use Rattle.by_columns.proofs.rule17.Goals as goal
-
-pub loop-p-init : goal.loop-p-init
-unfolding may17
-loop-p-init c =
-    begun
-
-pub returns-then-not-cumulative_order : goal.returns-then-not-cumulative_order
-unfolding may17
-returns-then-not-cumulative_order c =
-    search fails
-
-pub overflow_step-p : goal.overflow_step-p
-unfolding may17
-overflow_step-p c =
-    omega arith
-
-pub loop-p-smaller : goal.loop-p-smaller
-unfolding may17
-loop-p-smaller c =
-    omega arith
-
-pub loop-p-preserved : goal.loop-p-preserved
-unfolding may17
-loop-p-preserved c =
-    search passes
 
 pub returns : goal.returns
 unfolding may17
 returns c =
-    search ends
+    let a = c.args in
+    all_range (λ p. all a.k (cumulative a.k a.n (set_in a.own.now p) (bit a.barriers) (applies_in a.barriers a.syncs a.stores a.loads) (order_in a.rows.now p) (order_in a.rows.now))) _ _ _ c.all.ensures.ran refl (λ x b q k. search (rules, tests))

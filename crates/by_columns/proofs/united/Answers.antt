@@ -1,5 +1,4 @@
 -- `by_columns::united` meets its contract. Assumes nothing.
-use native.Mathlib.Omega.{arith}
 use Rattle.rows.proofs.Loops.{empty, joins, united}
 use Rattle.rows.proofs.SetLaws.{as_set}
 use Rattle.by_columns.proofs.united.Goals as goal
@@ -7,14 +6,6 @@ use Rattle.by_columns.proofs.united.Goals as goal
 pub loop-a-init : goal.loop-a-init
 loop-a-init c =
     search empty
-
-pub overflow_step-a : goal.overflow_step-a
-overflow_step-a c =
-    omega arith
-
-pub loop-a-smaller : goal.loop-a-smaller
-loop-a-smaller c =
-    omega arith
 
 pub loop-a-preserved : goal.loop-a-preserved
 loop-a-preserved c =

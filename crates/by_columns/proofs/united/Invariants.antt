@@ -1,11 +1,7 @@
 -- `by_columns::united` meets its contract. Assumes nothing.
-use Prim.Native.Nat.{◌-◌}
 use Rattle.rows.specs.Sets.{order_in}
 use Rattle.rows.proofs.Loops.{United}
 use Rattle.by_columns.proofs.united.Given as goal
 
 abbrev pub invariant-loop-a : goal.invariant-loop-a
 invariant-loop-a l = United l.k (λ a e. order_in l.rows l.p a e) l.a l.found
-
-abbrev pub decreases-loop-a : goal.decreases-loop-a
-decreases-loop-a l = l.k - l.a

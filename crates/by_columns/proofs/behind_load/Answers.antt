@@ -1,8 +1,0 @@
--- `by_columns::behind_load` meets its contract. Assumes nothing.
-use Rattle.rows.proofs.SetLaws.{so_set, as_set}
-use Rattle.by_columns.proofs.Laws.{bounded}
-use Rattle.by_columns.proofs.behind_load.Goals as goal
-
-pub returns : goal.returns
-returns c =
-    bounded c.args.k c.args.l c.requires.l_lt_k (so_set c.where_so.ensures c.must_read-reads.ensures (as_set c.row.ensures))
