@@ -1,43 +1,30 @@
--- The loop that looks for unfinished bytes, and each way through the functions that append to an area.
+-- Each way through the functions that append to an area.
 -- Assumes nothing.
 use Prim.Native.Nat.{ℕ, ◌+◌, ◌-◌, ◌≤◌, ◌<◌}
 use native.Mathlib.Omega.{arith}
-use native.Mathlib.Numerals.{add-one}
 use mathlib.Core.Path.{◌≡◌, refl, sym, ap, ◌∙◌}
 use mathlib.Core.Bool.{Bool, true, false, cond}
-use mathlib.Core.List.{List, []}
+use mathlib.Core.List.{List}
 use lib.Dec.{leb, ltb}
-use lib.ListN.{length, get_or, take, drop, drop_of_length-le}
-use lib.Seq.{drop-cons, length-take-le}
-use borrow.Author.Tests.{eq-eqb, ne_eqb, le-leb, lt-leb, leb-true, ltb-true, ltb-false}
+use lib.ListN.{length, take, drop}
+use lib.Seq.{length-take-le}
+use borrow.Author.Tests.{le-leb, lt-leb, leb-true, ltb-true, ltb-false}
 use Rattle.finite.specs.Lists.{every}
 use Rattle.model.specs.Record.{read}
 use Rattle.model.specs.Answers.{refusal, done}
 use Rattle.answers.specs.declared.Answer.{Answer}
-use Rattle.answers.specs.Shown.{shown}
+use Rattle.std.proofs.Common.{Ok, Err}
+use Rattle.number.specs.declared.Refusal.{Refusal}
+use Rattle.answers.specs.declared.Cause.{Cause}
+use Rattle.answers.specs.declared.Cause.TheVariants.{Fault}
+use Rattle.answers.specs.declared.Refused.{Refused}
+use Rattle.answers.specs.Shown.{shown, cause_number}
 use Rattle.laws.proofs.ExtentCase.{accepted}
 use Rattle.reader.specs.declared.Reading.{Reading}
-use Rattle.reader.specs.Answers.{reading_of}
-use Rattle.reader.proofs.Found.{was_read, missed}
-use Rattle.area_model.specs.Area.{unused, is_unused, found, appending, store_some, refuse, append_at, append_read, append}
-use Rattle.area.specs.declared.End.{End}
-use Rattle.area.specs.Shown.{end_shown, refusal_at, Answered, Made}
-use Rattle.area.proofs.Told.{end_is, faultless, faulty}
-
--- ---- the loop of `all_unused`
-
-module _ (s : List ℕ) (from i : ℕ) (same : every is_unused (drop i s) ≡ every is_unused (drop from s)) where
-  pub unused-fails : i < length s → (get_or s i 0 ≡ unused → ⊥) → false ≡ every is_unused (drop from s)
-  unfolding every
-  unused-fails l n = sym (sym same ∙ rw (drop-cons s i 0 l, ne_eqb (get_or s i 0) unused n))
-
-  pub unused-next : i < length s → get_or s i 0 ≡ unused → every is_unused (drop (i + 1) s) ≡ every is_unused (drop from s)
-  unfolding every
-  unused-next l e = rw add-one (sym (rw (drop-cons s i 0 l, eq-eqb (get_or s i 0) unused e)) ∙ same)
-
-  pub unused_ends : length s ≤ i → true ≡ every is_unused (drop from s)
-  unfolding every
-  unused_ends l = let none : drop i s ≡ [] = drop_of_length-le s l in sym (sym same ∙ rw none)
+use Rattle.reader.specs.Answers.{ReadingOf}
+use Rattle.area_model.specs.Area.{is_unused, found, appending, store_some, refuse, append_at, append_read, append}
+use Rattle.area.specs.Shown.{EndOf, stores_given, refusal_at, Answered, Made}
+use Rattle.area.proofs.Told.{cause_some, faultless, faulty}
 
 -- ---- the ways through `has_room` and `refusal_at`
 
@@ -77,48 +64,50 @@ is_free area end size e = go (leb (end + 1 + size) (length area)) (every is_unus
     go true false p q e = absurd (omega arith)
     go false z p q e = absurd (omega arith)
 
-pub room_for : (area : List ℕ) (end size x : ℕ) → x ≡ refusal_at end size area → x ≡ 0 → end + 1 + size ≤ length area
-room_for area end size x e z = leb-true (end + 1 + size) (length area) (is_free area end size (sym e ∙ z)).room
+pub room_for : (area : List ℕ) (end size : ℕ) → 0 ≡ refusal_at end size area → end + 1 + size ≤ length area
+room_for area end size z = leb-true (end + 1 + size) (length area) (is_free area end size (sym z)).room
 
-module _ (area : List ℕ) (end : ℕ) (bytes : List ℕ) (size allowed : ℕ) (fits : size ≤ length bytes) (x : ℕ) (e : x ≡ refusal_at end size area) where
-  pub stored : x ≡ 0 → (r : Answer) (stores : ℕ) (now : List ℕ) → r ≡ shown (done stores) → Made (store_some allowed (appending end (take size bytes)) area) stores now
-      → Answered (append_at end allowed (take size bytes) area) r now
+module _ (area : List ℕ) (end : ℕ) (bytes : List ℕ) (size allowed : ℕ) (fits : size ≤ length bytes) where
+  pub stored : 0 ≡ refusal_at end size area → (stores : ℕ) (now : List ℕ) → Made (store_some allowed (appending end (take size bytes)) area) stores now
+      → Answered (append_at end allowed (take size bytes) area) (stores_given (Ok stores)) now
   unfolding append_at store_some
-  stored z r stores now h D =
-      let F : Free area end size = is_free area end size (sym e ∙ z) in
-      rw (length-take-le size bytes fits, F.room, F.unused) (record { answer = h ∙ ap (λ (k : ℕ). shown (done k)) D.count; area = D.area })
+  stored z stores now D =
+      let F : Free area end size = is_free area end size (sym z) in
+      rw (length-take-le size bytes fits, F.room, F.unused) (record { answer = ap (λ (k : ℕ). shown (done k)) D.count; area = D.area })
 
-  pub not-stored : (x ≡ 0 → ⊥) → (r : Answer) → r ≡ shown (refusal x 0) → Answered (append_at end allowed (take size bytes) area) r area
+  pub not-stored : (k : Cause) → cause_number k ≡ refusal_at end size area
+      → Answered (append_at end allowed (take size bytes) area) (stores_given (Err (record { cause = k; place = 0 }))) area
   unfolding append_at
-  not-stored n r h = rw (length-take-le size bytes fits) (go (leb (end + 1 + size) (length area)) (every is_unused (drop end area)) e)
+  not-stored k e = rw (length-take-le size bytes fits) (go (leb (end + 1 + size) (length area)) (every is_unused (drop end area)) e)
     where
-      go : (y z : Bool) → x ≡ cond y (cond z 0 8) 6
-          → Answered (cond y (cond z (store_some allowed (appending end (take size bytes)) area) (refuse 8 0 area)) (refuse 6 0 area)) r area
-      go true true e = absurd (n e)
-      go true false e = record { answer = h ∙ ap (λ (k : ℕ). shown (refusal k 0)) e; area = refl }
-      go false z e = record { answer = h ∙ ap (λ (k : ℕ). shown (refusal k 0)) e; area = refl }
+      go : (y z : Bool) → cause_number k ≡ cond y (cond z 0 8) 6
+          → Answered (cond y (cond z (store_some allowed (appending end (take size bytes)) area) (refuse 8 0 area)) (refuse 6 0 area)) (stores_given (Err (record { cause = k; place = 0 }))) area
+      go true true e = absurd (cause_some k e)
+      go true false e = record { answer = ap (λ (n : ℕ). shown (refusal n 0)) e; area = refl }
+      go false z e = record { answer = ap (λ (n : ℕ). shown (refusal n 0)) e; area = refl }
 
 -- ---- the ways through `append_read`
 
-module _ (bytes : List ℕ) (r : Reading) (e : r ≡ reading_of (read bytes)) where
-  pub record_within : r.number ≡ 0 → r.length ≤ length bytes
-  record_within z = let R = was_read bytes r e z in (accepted bytes R.c r.length R.is_read).inside
+module _ (bytes : List ℕ) where
+  module _ (r : Reading) (R : ReadingOf (read bytes) (Ok r)) where
+    pub record_within : r.length ≤ length bytes
+    record_within = (accepted bytes R.c r.length R.is_read).inside
 
-  module _ (area : List ℕ) (end allowed : ℕ) where
-    pub record_appended : r.number ≡ 0 → (a : Answer) (now : List ℕ) → Answered (append_at end allowed (take r.length bytes) area) a now
+    pub record_appended : (area : List ℕ) (end allowed : ℕ) (a : Answer) (now : List ℕ) → Answered (append_at end allowed (take r.length bytes) area) a now
         → Answered (append_read end allowed bytes area (read bytes)) a now
-    record_appended z a now D = rw (was_read bytes r e z).is_read D
+    record_appended area end allowed a now D = rw R.is_read D
 
-    pub record_refused : (r.number ≡ 0 → ⊥) → (a : Answer) → a ≡ shown (refusal r.number r.place) → Answered (append_read end allowed bytes area (read bytes)) a area
-    record_refused n a h = rw (missed bytes r e n) (record { answer = h; area = refl })
+  pub record_refused : (e : Refusal) → ReadingOf (read bytes) (Err e) → (area : List ℕ) (end allowed : ℕ)
+      → Answered (append_read end allowed bytes area (read bytes)) (stores_given (Err (record { cause = Fault e.fault; place = e.place }))) area
+  record_refused e h area end allowed = rw h (record { answer = refl; area = refl })
 
--- ---- the ways through `append`
+-- ---- the ways through `append_log`
 
-module _ (area : List ℕ) (l : End) (e : l ≡ end_shown (found area)) (bytes : List ℕ) (allowed : ℕ) where
-  pub appended : l.number ≡ 0 → (r : Answer) (now : List ℕ) → Answered (append_read l.end allowed bytes area (read bytes)) r now → Answered (append area bytes allowed) r now
+module _ (area : List ℕ) (bytes : List ℕ) (allowed : ℕ) where
+  pub appended : (end : ℕ) → EndOf (found area) (Ok end) → (a : Answer) (now : List ℕ) → Answered (append_read end allowed bytes area (read bytes)) a now → Answered (append area bytes allowed) a now
   unfolding append
-  appended z r now D = rw (faultless area l e z (append_read (found area).end allowed bytes area (read bytes)), ← (end_is area l e)) D
+  appended end E a now D = rw (faultless area end E (append_read (found area).end allowed bytes area (read bytes)), ← E.end_is) D
 
-  pub not-appended : (l.number ≡ 0 → ⊥) → (r : Answer) → r ≡ shown (refusal l.number l.place) → Answered (append area bytes allowed) r area
+  pub not-appended : (e : Refused) → EndOf (found area) (Err e) → Answered (append area bytes allowed) (stores_given (Err e)) area
   unfolding append
-  not-appended n r h = faulty area l e n r h (append_read (found area).end allowed bytes area (read bytes))
+  not-appended e h = faulty area e h (append_read (found area).end allowed bytes area (read bytes))

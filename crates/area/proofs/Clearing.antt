@@ -10,14 +10,14 @@ use lib.ListN.{length, get_or, take, drop, set, length-set, drop_of_length-le}
 use lib.Seq.{take-nil, drop-cons, set-get_or, drop-set-lt}
 use borrow.Author.Tests.{eqb-true, eq-eqb, ne_eqb}
 use Rattle.finite.specs.Tests.{tick}
-use Rattle.model.specs.Answers.{refusal, done}
-use Rattle.answers.specs.declared.Answer.{Answer}
+use Rattle.model.specs.Answers.{done}
+use Rattle.std.proofs.Common.{Ok, Err}
+use Rattle.answers.specs.declared.Refused.{Refused}
 use Rattle.answers.specs.Shown.{shown}
 use Rattle.area_model.specs.Area.{unused, is_unused, found, Store, after_stores, clearing, store_some, repairing, repair}
 use Rattle.area_model.proofs.Stores.{stores_one}
-use Rattle.area.specs.declared.End.{End}
-use Rattle.area.specs.Shown.{end_shown, Answered, Made, Cleared}
-use Rattle.area.proofs.Told.{end_is, faultless, faulty}
+use Rattle.area.specs.Shown.{EndOf, stores_given, Answered, Made, Cleared}
+use Rattle.area.proofs.Told.{faultless, faulty}
 
 -- ---- the ways through `clear_byte`
 
@@ -97,15 +97,15 @@ module _ (area₀ : List ℕ) (from allowed : ℕ) (area : List ℕ) (i made : �
           rw (C.area, sum, add-one i)
           (record { few = omega arith; long = length-set area i unused ∙ S.long; count = rw further (omega arith); same = rw further same })
 
--- ---- the ways through `repair`
+-- ---- the ways through `repair_log`
 
-module _ (area : List ℕ) (l : End) (e : l ≡ end_shown (found area)) (allowed : ℕ) where
-  pub repaired : l.number ≡ 0 → (r : Answer) (stores : ℕ) (now : List ℕ) → r ≡ shown (done stores) → Made (store_some allowed (clearing l.end (drop l.end area)) area) stores now
-      → Answered (repair area allowed) r now
+module _ (area : List ℕ) (allowed : ℕ) where
+  pub repaired : (end : ℕ) → EndOf (found area) (Ok end) → (stores : ℕ) (now : List ℕ) → Made (store_some allowed (clearing end (drop end area)) area) stores now
+      → Answered (repair area allowed) (stores_given (Ok stores)) now
   unfolding repair store_some
-  repaired z r stores now h D =
-      rw (faultless area l e z (store_some allowed (repairing area) area), ← (end_is area l e)) (record { answer = h ∙ ap (λ (k : ℕ). shown (done k)) D.count; area = D.area })
+  repaired end E stores now D =
+      rw (faultless area end E (store_some allowed (repairing area) area), ← E.end_is) (record { answer = ap (λ (k : ℕ). shown (done k)) D.count; area = D.area })
 
-  pub not_repaired : (l.number ≡ 0 → ⊥) → (r : Answer) → r ≡ shown (refusal l.number l.place) → Answered (repair area allowed) r area
+  pub not_repaired : (e : Refused) → EndOf (found area) (Err e) → Answered (repair area allowed) (stores_given (Err e)) area
   unfolding repair
-  not_repaired n r h = faulty area l e n r h (store_some allowed (repairing area) area)
+  not_repaired e h = faulty area e h (store_some allowed (repairing area) area)

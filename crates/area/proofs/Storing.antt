@@ -1,8 +1,11 @@
 -- Each way through the function that stores one byte of a frame, and the loop over it.
 -- Assumes nothing.
 use Prim.Native.Nat.{ℕ, zero, suc, ◌+◌, ◌≤◌, ◌<◌}
+use native.Mathlib.Nat.{le_antisymm}
+use native.Mathlib.Decide.{dec_lt}
 use native.Mathlib.Omega.{arith}
-use mathlib.Core.Path.{◌≡◌, refl, sym, ap, ◌∙◌}
+use mathlib.Core.Path.{◌≡◌, refl, sym, ap, ◌∙◌, subst}
+use Rattle.std.proofs.Common.{min}
 use mathlib.Core.List.{List, [], ◌∷◌}
 use lib.ListN.{length, get_or, take, drop, set, get_or-append}
 use lib.Seq.{drop-cons, get_or_at, get_or-take, take-add, take_all, length-take-le}
@@ -89,3 +92,11 @@ module _ (area₀ : List ℕ) (xs : List Store) (size allowed : ℕ) (area : Lis
   all-stored l =
       let all : length xs ≤ made = omega (arith, S.count) in
       made_all (take_all allowed xs (omega (arith, S.few)) ∙ sym (take_all made xs all))
+
+  -- as many stores are made as are allowed, or as there are
+  pub all_made : (stores : ℕ) → stores ≡ min allowed (size + 1) → stores ≤ made → made ≤ stores → Made (store_some allowed xs area₀) stores area
+  all_made stores e l m = subst (λ (n : ℕ). Made (store_some allowed xs area₀) n area) (le_antisymm m l) (by (dec_lt size made))
+    where
+      by : Dec (size < made) → Made (store_some allowed xs area₀) made area
+      by (yes h) = all-stored h
+      by (no h) = cut_short (omega arith)

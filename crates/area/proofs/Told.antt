@@ -6,30 +6,41 @@ use mathlib.Core.Path.{◌≡◌, refl, sym, ap, ◌∙◌}
 use mathlib.Core.List.{List}
 use lib.ListN.{length}
 use borrow.Author.Tests.{ne_eqb}
-use Rattle.model.specs.Answers.{Stored, refusal}
-use Rattle.answers.specs.declared.Answer.{Answer}
-use Rattle.answers.specs.Shown.{shown}
+use Rattle.std.proofs.Common.{Ok, Err}
+use Rattle.number.specs.declared.Fault.TheVariants.{Ends, Form, Range, Turn, Unprintable}
+use Rattle.log_model.specs.Log.{Ending}
+use Rattle.model.specs.Answers.{Stored}
+use Rattle.answers.specs.declared.Refused.{Refused}
+use Rattle.answers.specs.declared.Cause.{Cause}
+use Rattle.answers.specs.declared.Cause.TheVariants.{Fault, NoFit, NoRoom, NoModel, Unrepaired, BadFlag}
+use Rattle.answers.specs.Shown.{cause_number}
 use Rattle.area_model.specs.Area.{found, unless_fault}
 use Rattle.area_model.proofs.Survival.{end-within}
-use Rattle.area.specs.declared.End.{End}
-use Rattle.area.specs.Shown.{end_shown, Answered}
+use Rattle.area.specs.Shown.{EndOf, stores_given, Answered}
 
-module _ (area : List ℕ) (l : End) (e : l ≡ end_shown (found area)) where
-  number_is : l.number ≡ (found area).ending.number
-  number_is = ap (λ (x : End). x.number) e
+-- 0 is no refusal
+pub cause_some : (k : Cause) → cause_number k ≡ 0 → ⊥
+cause_some (Fault Ends) e = omega arith
+cause_some (Fault Form) e = omega arith
+cause_some (Fault Range) e = omega arith
+cause_some (Fault Turn) e = omega arith
+cause_some (Fault Unprintable) e = omega arith
+cause_some NoFit e = omega arith
+cause_some NoRoom e = omega arith
+cause_some NoModel e = omega arith
+cause_some Unrepaired e = omega arith
+cause_some BadFlag e = omega arith
 
-  place_is : l.place ≡ (found area).ending.place
-  place_is = ap (λ (x : End). x.place) e
+module _ (area : List ℕ) where
+  module _ (end : ℕ) (E : EndOf (found area) (Ok end)) where
+    pub end-inside : end ≤ length area
+    end-inside = omega (arith, E.end_is, end-within area E.faultless)
 
-  pub end_is : l.end ≡ (found area).end
-  end_is = ap (λ (x : End). x.end) e
+    -- a log without fault, and one with a fault of its own
+    pub faultless : (s : Stored) → unless_fault (found area).ending area s ≡ s
+    faultless s = rw E.faultless
 
-  pub end-inside : l.number ≡ 0 → l.end ≤ length area
-  end-inside z = omega (arith, end_is, end-within area (sym number_is ∙ z))
-
-  -- a log without fault, and one with a fault of its own
-  pub faultless : l.number ≡ 0 → (s : Stored) → unless_fault (found area).ending area s ≡ s
-  faultless z s = let sound : (found area).ending.number ≡ 0 = sym number_is ∙ z in rw sound
-
-  pub faulty : (l.number ≡ 0 → ⊥) → (r : Answer) → r ≡ shown (refusal l.number l.place) → (s : Stored) → Answered (unless_fault (found area).ending area s) r area
-  faulty n r h s = rw (ne_eqb (found area).ending.number 0 (λ z. n (number_is ∙ z)), ← number_is, ← place_is) (record { answer = h; area = refl })
+  pub faulty : (e : Refused) → EndOf (found area) (Err e) → (s : Stored) → Answered (unless_fault (found area).ending area s) (stores_given (Err e)) area
+  faulty e h s =
+      let n : (found area).ending.number ≡ cause_number e.cause = ap (λ (x : Ending). x.number) h in
+      rw (ne_eqb (found area).ending.number 0 (λ z. cause_some e.cause (sym n ∙ z)), h) (record { answer = refl; area = refl })

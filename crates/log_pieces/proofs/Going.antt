@@ -16,10 +16,7 @@ use Rattle.tally.specs.Tally.{is_verdict, grown, may_grow, adding}
 use Rattle.log_model.specs.Pieces.{Stop, refused, full, Run, on_reading, run_by, run_from, run}
 use Rattle.log_model.proofs.Counts.{verdict_good}
 use Rattle.log_model.proofs.RunLaws.{Further, further as behind, run-stop, run-next}
-use Rattle.log_pieces.specs.declared.Judged.{Judged}
-use Rattle.log_pieces.specs.declared.Step.{Step}
-use Rattle.log_pieces.specs.declared.Turn.{Turn}
-use Rattle.log_pieces.specs.Shown.{judged_of, begun, stop_at, step_of, next_turn, run_of, number_of, place_of, step_shown}
+use Rattle.log_pieces.specs.Shown.{Told, Step, Turn, judged_of, begun, stop_at, step_of, next_turn, run_of, number_of, place_of, step_shown}
 
 -- a refusal of bytes is none of the numbers that judging gives, and not 6
 record NoVerdict (x : ℕ) : Type 0 where
@@ -73,7 +70,7 @@ module _ (s : List ℕ) (b : Octets s) where
   bytes at = all_drop _ at s (slice_bytes s b)
 
   module _ (f : Step) (inside : f.judged ≤ length s) where
-    abbrev j : Judged
+    abbrev j : Told
     j = judged_of (read (drop f.judged s))
 
     -- no place and no length is past the bytes

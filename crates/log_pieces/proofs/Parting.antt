@@ -15,11 +15,9 @@ use Rattle.log_model.specs.Pieces.{refused, run, run_from, answer, judge_log}
 use Rattle.log_model.proofs.RunLaws.{run-stop, read_end}
 use Rattle.log_model.proofs.Cut.{ended-last}
 use Rattle.log_model.proofs.Kept.{call-small}
-use Rattle.log_pieces.specs.declared.Step.{Step}
-use Rattle.log_pieces.specs.declared.Turn.{Turn}
 use Rattle.log_pieces.specs.declared.LogAnswer.{LogAnswer}
 use Rattle.log_pieces.specs.declared.JudgedLog.{JudgedLog}
-use Rattle.log_pieces.specs.Shown.{begun, next_turn, run_of, answer_shown, judged_shown, GoesOn, PartJudged}
+use Rattle.log_pieces.specs.Shown.{Step, Turn, begun, next_turn, run_of, answer_shown, judged_shown, GoesOn, PartJudged}
 use Rattle.log_pieces.proofs.Going.{Going, Front, first, onward, front_on, less, left}
 use Rattle.log_pieces.proofs.Answering.{as_waiting, answer_is}
 

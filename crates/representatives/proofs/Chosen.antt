@@ -1,55 +1,57 @@
 -- What the comparison of two records answers, by what reading them told.
 -- Assumes nothing.
-use Prim.Native.Nat.{ℕ, ◌-◌, ◌≤◌}
-use native.Mathlib.Nat.{sub-zero}
+use Prim.Native.Nat.{ℕ, ◌≤◌}
 use native.Mathlib.Omega.{arith}
 use mathlib.Core.Path.{◌≡◌, refl, sym, ap, ap₂, ◌∙◌}
 use mathlib.Core.Bool.{Bool, true, false, cond}
 use mathlib.Core.List.{List}
 use lib.ListN.{length, take}
+use lib.Seq.{length-take-le}
 use borrow.Author.Tests.{eq-eqb, ne_eqb}
+use Rattle.std.proofs.Common.{Ok, Err}
+use Rattle.number.specs.declared.Refusal.{Refusal}
 use Rattle.number.specs.Reader.{Out, stop, next}
 use Rattle.model.specs.Case.{Case}
 use Rattle.model.specs.Record.{read}
 use Rattle.number.specs.Number.{Bytes}
 use Rattle.reader.specs.declared.Reading.{Reading}
-use Rattle.reader.specs.Answers.{reading_of}
+use Rattle.reader.specs.Answers.{ReadingOf}
 use Rattle.reader.proofs.Bytes.{Octets, slice_bytes}
-use Rattle.reader.proofs.Found.{Found, found, missed, read_within}
+use Rattle.reader.proofs.Found.{read_within}
 use Rattle.classes.specs.Order.{at_most}
 use Rattle.classes.specs.Representative.{Choice as Chosen, choice_read, choice, chosen, lesser}
 use Rattle.representatives.specs.declared.Choice.{Choice}
 use Rattle.representatives.specs.Shown.{choice_shown}
 
-pub record_within : (s : List ℕ) → Octets s → (r : Reading) → r ≡ reading_of (read s) → r.number ≡ 0 → r.length ≤ length s
-record_within s b r e z = let f : Found s r = found s (slice_bytes s b) r e z in read_within s (slice_bytes s b) f.c r.length f.is_read
-
-module _ (s t : List ℕ) (r r' : Reading) (e : r ≡ reading_of (read s)) (e' : r' ≡ reading_of (read t)) where
-  pub first_missed : (r.number ≡ 0 → ⊥) → ◌≡◌ {A = Choice} (record { which = 0; length = 0 }) (choice_shown (choice s t))
+module _ (s t : List ℕ) where
+  pub first_missed : (e : Refusal) → ReadingOf (read s) (Err e) → ◌≡◌ {A = Choice} (record { which = 0; length = 0 }) (choice_shown (choice s t))
   unfolding choice
-  first_missed z = sym (ap (λ (o : Out Case). choice_shown (choice_read s t o (read t))) (missed s r e z))
+  first_missed e h = sym (ap (λ (o : Out Case). choice_shown (choice_read s t o (read t))) h)
 
-  module _ (b : Octets s) (z : r.number ≡ 0) where
-    f : Found s r
-    f = found s (slice_bytes s b) r e z
-
-    pub second_missed : (r'.number ≡ 0 → ⊥) → ◌≡◌ {A = Choice} (record { which = 0; length = 0 }) (choice_shown (choice s t))
+  module _ (r : Reading) (f : ReadingOf (read s) (Ok r)) where
+    pub second_missed : (e : Refusal) → ReadingOf (read t) (Err e) → ◌≡◌ {A = Choice} (record { which = 0; length = 0 }) (choice_shown (choice s t))
     unfolding choice
-    second_missed z' = sym (ap₂ (λ (o p : Out Case). choice_shown (choice_read s t o p)) f.is_read (missed t r' e' z'))
+    second_missed e h = sym (ap₂ (λ (o p : Out Case). choice_shown (choice_read s t o p)) f.is_read h)
 
-    module _ (b' : Octets t) (z' : r'.number ≡ 0) (x : Bool) (m : x ≡ at_most (take (r.length - 0) s) (take (r'.length - 0) t)) where
+    module _ (r' : Reading) (g : ReadingOf (read t) (Ok r')) (x : Bool) (m : x ≡ at_most (take r.length s) (take r'.length t)) where
       both : choice s t ≡ cond x (record { which = 1; length = r.length }) (record { which = 2; length = r'.length })
       unfolding choice
       both =
-          ap₂ (choice_read s t) f.is_read (found t (slice_bytes t b') r' e' z').is_read
-          ∙ ap (λ (y : Bool). cond {A = Chosen} y (record { which = 1; length = r.length }) (record { which = 2; length = r'.length }))
-          (sym (m ∙ ap₂ (λ (i j : ℕ). at_most (take i s) (take j t)) (sub-zero r.length) (sub-zero r'.length)))
+          ap₂ (choice_read s t) f.is_read g.is_read
+          ∙ ap (λ (y : Bool). cond {A = Chosen} y (record { which = 1; length = r.length }) (record { which = 2; length = r'.length })) (sym m)
 
       pub chose_first : x ≡ true → ◌≡◌ {A = Choice} (record { which = 1; length = r.length }) (choice_shown (choice s t))
       chose_first h = sym (ap choice_shown (both ∙ rw h))
 
       pub chose_second : x ≡ false → ◌≡◌ {A = Choice} (record { which = 2; length = r'.length }) (choice_shown (choice s t))
       chose_second h = sym (ap choice_shown (both ∙ rw h))
+
+-- a part that lies within its bytes has the length that it is asked for
+taken : (s : List ℕ) (i : ℕ) → i ≤ length s → i ≡ length (take i s)
+taken s i l = sym (length-take-le i s l)
+
+pub record_within : (s : List ℕ) → Octets s → (r : Reading) → ReadingOf (read s) (Ok r) → r.length ≡ length (take r.length s)
+record_within s b r f = taken s r.length (read_within s (slice_bytes s b) f.c r.length f.is_read)
 
 -- ---- the part
 
@@ -81,31 +83,31 @@ module _ (s t : List ℕ) (b : Octets s) (b' : Octets t) (x : Choice) (e : x ≡
   named : x.which ≡ (choice s t).which
   named = ap (λ (y : Choice). y.which) e
 
-  pub first-within : x.which ≡ 1 → x.length ≤ length s
-  first-within h = rw long (W.first (sym named ∙ h))
+  pub first-within : x.which ≡ 1 → x.length ≡ length (take x.length s)
+  first-within h = taken s x.length (rw long (W.first (sym named ∙ h)))
 
-  pub second-within : (x.which ≡ 1 → ⊥) → x.length ≤ length t
-  second-within h = rw long (W.second (λ z. h (named ∙ z)))
+  pub second-within : (x.which ≡ 1 → ⊥) → x.length ≡ length (take x.length t)
+  second-within h = taken t x.length (rw long (W.second (λ z. h (named ∙ z))))
 
 module _ (s t : List ℕ) (x : Choice) (e : x ≡ choice_shown (choice s t)) where
-  is_first : (y : Chosen) → x ≡ choice_shown y → x.which ≡ 1 → take (x.length - 0) s ≡ chosen s t y
+  is_first : (y : Chosen) → x ≡ choice_shown y → x.which ≡ 1 → take x.length s ≡ chosen s t y
   unfolding chosen
   is_first y e h =
       let n : y.which ≡ 1 = ap (λ (c : Choice). c.which) (sym e) ∙ h in
       let l : x.length ≡ y.length = ap (λ (c : Choice). c.length) e in
-      rw (eq-eqb y.which 1 n, sub-zero x.length, l)
+      rw (eq-eqb y.which 1 n, l)
 
-  is_second : (y : Chosen) → x ≡ choice_shown y → (x.which ≡ 1 → ⊥) → take (x.length - 0) t ≡ chosen s t y
+  is_second : (y : Chosen) → x ≡ choice_shown y → (x.which ≡ 1 → ⊥) → take x.length t ≡ chosen s t y
   unfolding chosen
   is_second y e h =
       let n : y.which ≡ x.which = ap (λ (c : Choice). c.which) (sym e) in
       let l : x.length ≡ y.length = ap (λ (c : Choice). c.length) e in
-      rw (ne_eqb y.which 1 (λ z. h (sym n ∙ z)), sub-zero x.length, l)
+      rw (ne_eqb y.which 1 (λ z. h (sym n ∙ z)), l)
 
-  pub first_is : x.which ≡ 1 → take (x.length - 0) s ≡ lesser s t
+  pub first_is : x.which ≡ 1 → take x.length s ≡ lesser s t
   unfolding lesser
   first_is = is_first (choice s t) e
 
-  pub second_is : (x.which ≡ 1 → ⊥) → take (x.length - 0) t ≡ lesser s t
+  pub second_is : (x.which ≡ 1 → ⊥) → take x.length t ≡ lesser s t
   unfolding lesser
   second_is = is_second (choice s t) e

@@ -3,7 +3,8 @@
 use Prim.Native.Nat.{ℕ}
 use mathlib.Core.Path.{◌≡◌, sym, ap, ◌∙◌}
 use mathlib.Core.List.{List}
-use Rattle.number.specs.Reader.{Out, stop}
+use Rattle.number.specs.Reader.{Out, number_of, refused}
+use Rattle.number.specs.declared.Refusal.{Refusal}
 use Rattle.model.specs.Case.{Case}
 use Rattle.model.specs.Record.{read}
 use Rattle.model.specs.Written.{record_of}
@@ -28,7 +29,7 @@ module _ (s : List ℕ) (r : Reading) (f : Found s r) where
       ∙ sym (ap (λ (o : Out Case). put_out (representative_out o) buffer at) f.is_read)
 
 pub not-represented :
-    (s : List ℕ) (r : Reading) → read s ≡ stop r.number r.place → (buffer : List ℕ) (at : ℕ)
-    → representative_record s buffer at ≡ record { answer = refusal r.number r.place; buffer = buffer }
+    (s : List ℕ) (e : Refusal) → read s ≡ refused e → (buffer : List ℕ) (at : ℕ)
+    → representative_record s buffer at ≡ record { answer = refusal (number_of e.fault) e.place; buffer = buffer }
 unfolding representative_record
-not-represented s r e buffer at = rw e
+not-represented s e h buffer at = rw h

@@ -6,7 +6,7 @@ ghost use Rattle.answers.specs.Shown.{shown};
 ghost use Rattle.classes.specs.Representative.{representative_record, choice as choice_of, lesser as lesser_of};
 ghost use Rattle.representatives.specs.Shown.{choice_shown};
 
-use answers::Answer;
+use answers::{Answer, Refused};
 
 // Which of two records is the lesser, 1 or 2, and how many bytes it has; 0 and 0 where either can't be read.
 #[repr(C)]
@@ -16,49 +16,46 @@ pub struct Choice {
     pub length: usize,
 }
 
+// One of the two can't be read.
+const NEITHER: Choice = Choice {
+    which: 0,
+    length: 0,
+};
+
 // Writes the record's representative into another buffer from a place on: the record's 1 to 4 or 23; 6 for too little room; or 0
 // and the record's length.
 pub fn representative(bytes: &[u8], out: &mut [u8], at: usize) -> Answer
     ensures value { result ≡ shown (representative_record bytes.now out.old at).answer }
     ensures out_after { out.new ≡ (representative_record bytes.now out.old at).buffer }
 {
-    let reading = reader::read_case(bytes);
-    if reading.number == 0 {
-        let case = reading.case;
-        return answers::put(least::representative(case), out, at);
+    match reader::read_case(bytes) {
+        Ok(reading) => answers::put(least::representative(reading.case), out, at),
+        Err(e) => Answer::from(Refused::from(e)),
     }
-    answers::refused(reading.number, reading.place)
 }
 
 // Which of two records is the lesser, the first if they are equal. Bytes behind them have no say.
 pub fn compared(first: &[u8], second: &[u8]) -> Choice
     ensures { result ≡ choice_shown (choice_of first.now second.now) }
 {
-    let one = reader::read_case(first);
-    let other = reader::read_case(second);
+    let Ok(one) = reader::read_case(first) else {
+        return NEITHER;
+    };
+    let Ok(other) = reader::read_case(second) else {
+        return NEITHER;
+    };
     let i = one.length;
     let j = other.length;
-    if one.number == 0 {
-        if other.number == 0 {
-            if compare::at_most(&first[0..i], &second[0..j]) {
-                return Choice {
-                    which: 1,
-                    length: i,
-                };
-            }
-            return Choice {
-                which: 2,
-                length: j,
-            };
+    if compare::at_most(&first[..i], &second[..j]) {
+        Choice {
+            which: 1,
+            length: i,
         }
-        return Choice {
-            which: 0,
-            length: 0,
-        };
-    }
-    Choice {
-        which: 0,
-        length: 0,
+    } else {
+        Choice {
+            which: 2,
+            length: j,
+        }
     }
 }
 
@@ -69,7 +66,8 @@ pub fn lesser<'a>(first: &'a [u8], second: &'a [u8]) -> &'a [u8]
     let chosen = compared(first, second);
     let length = chosen.length;
     if chosen.which == 1 {
-        return &first[0..length];
+        &first[..length]
+    } else {
+        &second[..length]
     }
-    &second[0..length]
 }

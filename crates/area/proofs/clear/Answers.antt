@@ -5,11 +5,11 @@ use Rattle.area.proofs.clear.Goals as goal
 
 pub loop-i-init : goal.loop-i-init
 loop-i-init c =
-    search begun
+    begun _ _ _
 
 pub returns-then-allowed-stores : goal.returns-then-allowed-stores
 returns-then-allowed-stores c =
-    search stops
+    stops _ _ _ _ _ _ c.loop-i.invariant c.if-allowed-stores.true
 
 pub overflow_add-stores : goal.overflow_add-stores
 overflow_add-stores c =
@@ -17,8 +17,8 @@ overflow_add-stores c =
 
 pub loop-i-preserved : goal.loop-i-preserved
 loop-i-preserved c =
-    search one_more
+    one_more _ _ _ _ _ _ c.loop-i.invariant (omega (arith, c.loop-i.invariant.long)) c.if-allowed-stores.false _ _ c.clear_byte-stores.ensures
 
 pub returns : goal.returns
 returns c =
-    search ends
+    ends _ _ _ _ _ _ c.loop-i.invariant (omega (arith, c.loop-i.invariant.long))

@@ -4,8 +4,8 @@ use lib.ListN.{length}
 use Rattle.area.proofs.Framing.{Seeking}
 use Rattle.area.proofs.find_end.Given as goal
 
-abbrev pub invariant-loop-frame : goal.invariant-loop-frame
-invariant-loop-frame l = Seeking l.area l.at
+abbrev pub invariant-loop-size : goal.invariant-loop-size
+invariant-loop-size l = Seeking l.area l.at
 
-abbrev pub decreases-loop-frame : goal.decreases-loop-frame
-decreases-loop-frame l = length l.area - l.at
+abbrev pub decreases-loop-size : goal.decreases-loop-size
+decreases-loop-size l = length l.area - l.at

@@ -1,19 +1,8 @@
 -- `area::next_frame` meets its contract. Assumes nothing.
-use Rattle.area.proofs.Framing.{at_end, is-unused, is-finished, is_bad}
+use native.Mathlib.Omega.{arith}
+use Rattle.area.proofs.Framing.{frame-within}
 use Rattle.area.proofs.next_frame.Goals as goal
 
-pub returns-then-area-at : goal.returns-then-area-at
-returns-then-area-at c =
-    search at_end
-
-pub returns-then-flag : goal.returns-then-flag
-returns-then-flag c =
-    search is-unused
-
-pub returns-then-flag-eq-FINISHED : goal.returns-then-flag-eq-FINISHED
-returns-then-flag-eq-FINISHED c =
-    search is-finished
-
-pub returns : goal.returns
-returns c =
-    search is_bad
+pub overflow_add-result : goal.overflow_add-result
+overflow_add-result c =
+    omega (arith, frame-within c.args.area.now c.args.at _ (rw c.in-Ok-Some.field-0-is at c.in-Ok-Some.ensures))

@@ -1,19 +1,17 @@
 -- `area::store_frame` meets its contract. Assumes nothing.
-use Rattle.area.proofs.Storing.{begun, one_more, cut_short, all-stored}
+use native.Mathlib.Omega.{arith}
+use Rattle.area.proofs.Storing.{begun, one_more, all_made}
 use Rattle.area.proofs.store_frame.Goals as goal
 
 pub loop-made-init : goal.loop-made-init
 loop-made-init c =
     search begun
 
-pub returns-then-allowed-made : goal.returns-then-allowed-made
-returns-then-allowed-made c =
-    search cut_short
-
 pub loop-made-preserved : goal.loop-made-preserved
 loop-made-preserved c =
-    search one_more
+    let m = c.min-stores.ensures in
+    one_more _ _ _ _ _ _ c.loop-made.invariant (omega arith) (omega arith) _ c.store_next.ensures
 
 pub returns : goal.returns
 returns c =
-    search all-stored
+    all_made _ _ _ _ _ _ c.loop-made.invariant _ c.min-stores.ensures c.loop-made-test.false c.loop-made.auto.made-end

@@ -1,5 +1,4 @@
 -- `area::store_frame` meets its contract. Assumes nothing.
-use Prim.Native.Nat.{◌+◌, ◌-◌}
 use lib.ListN.{take}
 use Rattle.area_model.specs.Area.{appending}
 use Rattle.area.proofs.Storing.{Storing}
@@ -7,6 +6,3 @@ use Rattle.area.proofs.store_frame.Given as goal
 
 abbrev pub invariant-loop-made : goal.invariant-loop-made
 invariant-loop-made l = Storing l.initial.area (appending l.end (take l.size l.bytes)) l.size l.allowed l.area l.made
-
-abbrev pub decreases-loop-made : goal.decreases-loop-made
-decreases-loop-made l = l.size + 1 - l.made

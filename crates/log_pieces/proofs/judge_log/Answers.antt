@@ -7,6 +7,6 @@ use Rattle.log_pieces.proofs.judge_log.Goals as goal
 pub returns : goal.returns
 unfolding judge_log
 returns c = (
-  rw c.judge_records-step.ensures.0 at c.answered.ensures ∙ answer_is c.args.from c.args.last c.args.bytes.now c.type_inv.bytes c.args.tally.now,
-  c.judge_records-step.ensures.1,
+  rw c.judge_records-stopped.ensures.0 at c.answered.ensures ∙ answer_is c.args.from c.args.last c.args.bytes.now c.type_inv.bytes c.args.tally.now,
+  c.judge_records-stopped.ensures.1,
 )

@@ -6,14 +6,14 @@ pub slice_bounds-result-end : goal.slice_bounds-result-end
 slice_bounds-result-end c =
     search first-within
 
+pub slice_bounds-result-end-else-chosen-eq1 : goal.slice_bounds-result-end-else-chosen-eq1
+slice_bounds-result-end-else-chosen-eq1 c =
+    search second-within
+
 pub returns-then-chosen-eq1 : goal.returns-then-chosen-eq1
 returns-then-chosen-eq1 c =
     search first_is
 
-pub slice_bounds-result-end-2 : goal.slice_bounds-result-end-2
-slice_bounds-result-end-2 c =
-    search second-within
-
-pub returns : goal.returns
-returns c =
+pub returns-else-chosen-eq1 : goal.returns-else-chosen-eq1
+returns-else-chosen-eq1 c =
     search second_is

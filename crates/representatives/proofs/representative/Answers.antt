@@ -1,39 +1,34 @@
 -- `representatives::representative` meets its contract. Assumes nothing.
 use mathlib.Core.Path.{sym, ap, ◌∙◌}
 use Rattle.model.specs.Answers.{Stored}
-use Rattle.answers.specs.Shown.{shown}
+use Rattle.answers.specs.declared.Refused.{Refused}
+use Rattle.answers.specs.Shown.{shown, refusal_of}
 use Rattle.reader.proofs.Bytes.{slice_bytes}
-use Rattle.reader.proofs.Found.{found, missed}
+use Rattle.reader.proofs.Found.{found}
 use Rattle.least.proofs.Represented.{represented-sound}
 use Rattle.representatives.proofs.Represented.{found_good, represented, not-represented}
 use Rattle.representatives.proofs.representative.Goals as goal
 
--- where the reading was accepted
-
 pub representative-requires : goal.representative-requires
 representative-requires c =
-    found_good _ _ (found c.args.bytes.now (slice_bytes c.args.bytes.now c.type_inv.bytes) _ c.read_case-reading.ensures c.if-reading-eq0.true)
+    found_good _ _ (found c.args.bytes.now (slice_bytes c.args.bytes.now c.type_inv.bytes) _ c.in-Ok.ensures)
 
 pub put-requires : goal.put-requires
 put-requires c =
-    represented-sound _ _ (found_good _ _ (found c.args.bytes.now (slice_bytes c.args.bytes.now c.type_inv.bytes) _ c.read_case-reading.ensures c.if-reading-eq0.true)) c.representative.ensures
+    represented-sound _ _ (found_good _ _ (found c.args.bytes.now (slice_bytes c.args.bytes.now c.type_inv.bytes) _ c.in-Ok.ensures)) c.representative.ensures
 
-pub returns-then-reading-eq0-clause-value : goal.returns-then-reading-eq0-clause-value
-returns-then-reading-eq0-clause-value c =
-    let same = represented _ _ (found c.args.bytes.now (slice_bytes c.args.bytes.now c.type_inv.bytes) _ c.read_case-reading.ensures c.if-reading-eq0.true) _ c.representative.ensures _ _ in
-    c.put.ensures.value ∙ ap (λ (w : Stored). shown w.answer) same
+pub returns-in-Ok-clause-value : goal.returns-in-Ok-clause-value
+returns-in-Ok-clause-value c =
+    c.put.ensures.value ∙ ap (λ (w : Stored). shown w.answer) (represented _ _ (found c.args.bytes.now (slice_bytes c.args.bytes.now c.type_inv.bytes) _ c.in-Ok.ensures) _ c.representative.ensures _ _)
 
-pub returns-then-reading-eq0-clause-out_after : goal.returns-then-reading-eq0-clause-out_after
-returns-then-reading-eq0-clause-out_after c =
-    let same = represented _ _ (found c.args.bytes.now (slice_bytes c.args.bytes.now c.type_inv.bytes) _ c.read_case-reading.ensures c.if-reading-eq0.true) _ c.representative.ensures _ _ in
-    c.put.ensures.out_after ∙ ap (λ (w : Stored). w.buffer) same
+pub returns-in-Ok-clause-out_after : goal.returns-in-Ok-clause-out_after
+returns-in-Ok-clause-out_after c =
+    c.put.ensures.out_after ∙ ap (λ (w : Stored). w.buffer) (represented _ _ (found c.args.bytes.now (slice_bytes c.args.bytes.now c.type_inv.bytes) _ c.in-Ok.ensures) _ c.representative.ensures _ _)
 
-pub returns-clause-value : goal.returns-clause-value
-returns-clause-value c =
-    let same = not-represented _ c.read_case-reading.result (missed _ _ c.read_case-reading.ensures c.if-reading-eq0.false) _ _ in
-    c.refused.ensures ∙ sym (ap (λ (w : Stored). shown w.answer) same)
+pub returns-in-Err-clause-value : goal.returns-in-Err-clause-value
+returns-in-Err-clause-value c =
+    c.from-in-Err.ensures ∙ ap (λ (e : Refused). shown (refusal_of e)) c.from.ensures ∙ sym (ap (λ (w : Stored). shown w.answer) (not-represented _ _ c.in-Err.ensures _ _))
 
-pub returns-clause-out_after : goal.returns-clause-out_after
-returns-clause-out_after c =
-    let same = not-represented _ c.read_case-reading.result (missed _ _ c.read_case-reading.ensures c.if-reading-eq0.false) _ _ in
-    sym (ap (λ (w : Stored). w.buffer) same)
+pub returns-in-Err-clause-out_after : goal.returns-in-Err-clause-out_after
+returns-in-Err-clause-out_after c =
+    sym (ap (λ (w : Stored). w.buffer) (not-represented _ _ c.in-Err.ensures _ _))
