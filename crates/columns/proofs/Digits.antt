@@ -8,6 +8,7 @@ use native.Mathlib.Decide.{dec_le}
 use mathlib.Core.Path.{◌≡◌, refl, sym, ap, ap₂, ◌∙◌, subst}
 use mathlib.Core.Bool.{Bool, true, false, not}
 use lib.Dec.{eqb}
+use Rattle.std.proofs.Math.Nat.{mul-div_cancel}
 use lib.Arith.{digits_div, digits_mod, digits_lt, mod-mul}
 use lib.Pow.{pow_pos, pow-add, pow_mono, pow-lt, shr-shr, shr_lt}
 use Rattle.finite.specs.Tests.{tick}
@@ -172,24 +173,26 @@ row_fits s t a hs h ht =
     (e, subst (λ (x : ℕ). x < most_events) (insert-true s t ∙ ap (λ (x : ℕ). x + 2 ^ s) (sym e)) (insert-lt s (digits - 1) true t (omega arith) ht))
 
 -- ---- the numbers whose digits from s on stand for a
-pub block_none : (s : ℕ) → 0 / 2 ^ s * 2 ^ s ≡ 0
-block_none s = let e = div-add-mod' 0 (2 ^ s) in omega arith
+pub block_at : (s a : ℕ) → a / 2 ^ s * 2 ^ s ≡ a → (t : ℕ) → a ≤ t → t < a + 2 ^ s → t / 2 ^ s * 2 ^ s ≡ a
+block_at s a h t l g =
+    let z : t ≡ a / 2 ^ s * 2 ^ s + (t - a) = omega arith in
+    let small : t - a < 2 ^ s = omega arith in
+    ap (λ (x : ℕ). x * 2 ^ s) (ap (λ (x : ℕ). x / 2 ^ s) z ∙ digits_div (a / 2 ^ s) small) ∙ h
 
-module _ (s a : ℕ) (h : a / 2 ^ s * 2 ^ s ≡ a) where
-  pub block_at : (t : ℕ) → a ≤ t → t < a + 2 ^ s → t / 2 ^ s * 2 ^ s ≡ a
-  block_at t l g =
-      let z : t ≡ a / 2 ^ s * 2 ^ s + (t - a) = omega arith in
-      let small : t - a < 2 ^ s = omega arith in
-      ap (λ (x : ℕ). x * 2 ^ s) (ap (λ (x : ℕ). x / 2 ^ s) z ∙ digits_div (a / 2 ^ s) small) ∙ h
+-- ---- the blocks of 2 ^ s numbers below 2 ^ n
+pub block_first : (s b : ℕ) → b * 2 ^ s / 2 ^ s * 2 ^ s ≡ b * 2 ^ s
+block_first s b = ap (λ (x : ℕ). x * 2 ^ s) (mul-div_cancel b (pow_pos s))
 
-  pub block_next : (a + 2 ^ s) / 2 ^ s * 2 ^ s ≡ a + 2 ^ s
-  block_next = ap (λ (x : ℕ). x * 2 ^ s) (add-div_right a (pow_pos s)) ∙ simp (add-mul, one-mul) (omega arith)
+pub block_next : (s b : ℕ) → (b + 1) * 2 ^ s ≡ b * 2 ^ s + 2 ^ s
+block_next s b = simp (add-mul, one-mul)
 
-  pub block_fits : (n : ℕ) → s ≤ n → a < 2 ^ n → a + 2 ^ s ≤ 2 ^ n
-  block_fits n l g =
-      let e : n ≡ (n - s) + s = omega arith in
-      let p : 2 ^ n ≡ 2 ^ (n - s) * 2 ^ s = ap (λ (x : ℕ). 2 ^ x) e ∙ pow-add 2 (n - s) s in
-      let q : a / 2 ^ s < 2 ^ (n - s) = shr_lt (n - s) s (subst (λ (x : ℕ). a < 2 ^ x) e g) in
-      let m : suc (a / 2 ^ s) * 2 ^ s ≤ 2 ^ (n - s) * 2 ^ s = mul-le-mul_right (2 ^ s) q in
-      let z : suc (a / 2 ^ s) * 2 ^ s ≡ a / 2 ^ s * 2 ^ s + 2 ^ s = simp (← add-one, add-mul, one-mul) in
+module _ (s n : ℕ) (l : s ≤ n) where
+  pub blocks : 2 ^ (n - s) * 2 ^ s ≡ 2 ^ n
+  blocks = let e : (n - s) + s ≡ n = omega arith in sym (pow-add 2 (n - s) s) ∙ ap (λ (x : ℕ). 2 ^ x) e
+
+  pub block_fits : (b : ℕ) → b < 2 ^ (n - s) → b * 2 ^ s + 2 ^ s ≤ 2 ^ n
+  block_fits b g =
+      let m : suc b * 2 ^ s ≤ 2 ^ (n - s) * 2 ^ s = mul-le-mul_right (2 ^ s) g in
+      let z : suc b * 2 ^ s ≡ b * 2 ^ s + 2 ^ s = ap (λ (x : ℕ). x * 2 ^ s) (sym (add-one b)) ∙ block_next s b in
+      let e = blocks in
       omega arith

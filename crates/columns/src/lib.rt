@@ -42,11 +42,12 @@ fn digits_below(k: usize) -> usize
     requires { k ≤ most_events }
     ensures { (result ≤ digits) × (k ≤ 2 ^ result) }
 {
-    let mut s: usize = 0;
-    while place(s) < k {
-        s += 1;
+    for count in 0..DIGITS {
+        if k <= place(count) {
+            return count;
+        }
     }
-    s
+    DIGITS
 }
 
 // The number t with 0 put in as digit s, where the digits of t from s on stand for `first`.
@@ -100,11 +101,9 @@ fn swap_rows(part: &mut [u64], s: usize, last: usize)
     ensures { Swapped s 0 (2 ^ last) part.old part.new }
 {
     let clear = mask(s);
-    let pairs = place(last);
-    let mut first: usize = 0;
-    while first < pairs {
+    for block in 0..place(last - s) {
+        let first = block * place(s);
         swap_block(part, s, clear, first);
-        first += place(s);
     }
 }
 
@@ -115,10 +114,9 @@ fn swap_digit(part: &mut [u64], s: usize, count: usize)
     requires part_len { length part.old ≡ most_events }
     ensures { Stepped s count part.old part.new }
 {
-    if count <= s {
-        return;
+    if s < count {
+        swap_rows(part, s, count - 1);
     }
-    swap_rows(part, s, count - 1);
 }
 
 // Turns the rows of one order into its columns, where the events' numbers have so many digits.
@@ -140,6 +138,7 @@ fn turn_each(out: &mut [u64], n: usize, count: usize)
     requires out_len { length out.old ≡ most_threads * most_events }
     ensures { Columns n (2 ^ count) out.old out.new }
 {
+    // By range: of a slice nothing is known after a loop over its mutable chunks.
     for p in 0..n {
         let start = p * Case::MOST_EVENTS;
         let end = start + Case::MOST_EVENTS;

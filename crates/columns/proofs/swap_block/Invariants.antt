@@ -5,6 +5,3 @@ use Rattle.columns.proofs.swap_block.Given as goal
 
 abbrev pub invariant-loop-t : goal.invariant-loop-t
 invariant-loop-t l = Swapping l.s l.first l.end l.t l.initial.part l.part
-
-abbrev pub decreases-loop-t : goal.decreases-loop-t
-decreases-loop-t l = l.end - l.t

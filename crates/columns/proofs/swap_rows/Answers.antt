@@ -1,70 +1,35 @@
 -- `columns::swap_rows` meets its contract. Assumes nothing.
-use Prim.Native.Nat.{◌+◌, ◌^◌, ◌≤◌}
+use Prim.Native.Nat.{ℕ, ◌+◌, ◌*◌, ◌^◌, ◌≤◌, ◌<◌}
 use native.Mathlib.Omega.{arith}
-use mathlib.Core.Path.{◌∙◌}
-use lib.Pow.{pow_pos}
-use Rattle.columns.proofs.Digits.{half_le, block_none, block_fits, block_next}
-use Rattle.columns.proofs.Turns.{swapping_begun, swapping_next, swapping_all}
-use Rattle.columns.proofs.swap_rows.Goals.{In-loop-first}
+use native.Mathlib.Nat.{mul-le-mul_right}
+use mathlib.Core.Path.{◌≡◌, refl, sym, ap, ◌∙◌, subst}
+use Rattle.columns.specs.Swaps.{Swapped}
+use Rattle.columns.proofs.Digits.{half_le, blocks, block_fits, block_next}
+use Rattle.columns.proofs.Turns.{swapping_next, swapping_all}
 use Rattle.columns.proofs.swap_rows.Goals as goal
-
-fit : (c : In-loop-first) → c.loop-first.first + 2 ^ c.args.s ≤ c.place-pairs.result
-fit c =
-    rw c.place-pairs.ensures (block_fits _ _ c.loop-first.invariant.0 c.args.last c.requires.s_le_last (omega arith))
-
-pub loop-first-init : goal.loop-first-init
-loop-first-init c =
-    (block_none _, swapping_begun _ _ _ _ (omega arith))
-
-pub swap_block-requires-clause-s_lt_digits : goal.swap_block-requires-clause-s_lt_digits
-swap_block-requires-clause-s_lt_digits c =
-    let f = fit c.before in
-    let l = half_le c.args.last c.requires.last_lt_digits in
-    omega arith
-
-pub swap_block-requires-clause-mask : goal.swap_block-requires-clause-mask
-swap_block-requires-clause-mask c =
-    let f = fit c.before in
-    let l = half_le c.args.last c.requires.last_lt_digits in
-    c.mask-clear.ensures
-
-pub swap_block-requires-clause-s_value : goal.swap_block-requires-clause-s_value
-swap_block-requires-clause-s_value c =
-    let f = fit c.before in
-    let l = half_le c.args.last c.requires.last_lt_digits in
-    c.loop-first.invariant.0
 
 pub swap_block-requires-clause-s_bound : goal.swap_block-requires-clause-s_bound
 swap_block-requires-clause-s_bound c =
-    let f = fit c.before in
-    let l = half_le c.args.last c.requires.last_lt_digits in
+    let s = c.args.s in
+    let start : c.loop-block.block * c.place.result ≡ c.loop-block.block * 2 ^ s = ap (λ (x : ℕ). c.loop-block.block * x) c.place.ensures in
+    let fit = block_fits s c.args.last c.requires.s_le_last c.loop-block.block (subst (λ (x : ℕ). c.loop-block.block < x) c.place-block-end.ensures c.loop-block-test.true) in
+    let half = half_le c.args.last c.requires.last_lt_digits in
     omega arith
 
-pub swap_block-requires-clause-part_len : goal.swap_block-requires-clause-part_len
-swap_block-requires-clause-part_len c =
-    let f = fit c.before in
-    let l = half_le c.args.last c.requires.last_lt_digits in
-    c.loop-first.invariant.1.done.long ∙ c.requires.part_len
-
-pub overflow_add-first : goal.overflow_add-first
-overflow_add-first c =
-    let f = fit c.before.before.before.before.before.before in
-    let l = half_le c.args.last c.requires.last_lt_digits in
-    record { fits = omega arith }
-
-pub loop-first-smaller : goal.loop-first-smaller
-loop-first-smaller c =
-    let p = pow_pos c.args.s in
-    omega arith
-
-pub loop-first-preserved : goal.loop-first-preserved
-loop-first-preserved c =
-    rw c.place-first.ensures (block_next _ _ c.loop-first.invariant.0, swapping_next c.loop-first.invariant.1 c.swap_block.ensures (omega arith) (fit c.before.before.before.before.before.before))
-
-pub shape_of-part : goal.shape_of-part
-shape_of-part c =
-    c.loop-first.invariant.1.done.long
+pub loop-block-preserved : goal.loop-block-preserved
+loop-block-preserved c =
+    let s = c.args.s in
+    let start : c.loop-block.block * c.place.result ≡ c.loop-block.block * 2 ^ s = ap (λ (x : ℕ). c.loop-block.block * x) c.place.ensures in
+    let fit = block_fits s c.args.last c.requires.s_le_last c.loop-block.block (subst (λ (x : ℕ). c.loop-block.block < x) c.place-block-end.ensures c.loop-block-test.true) in
+    let next = block_next s c.loop-block.block in
+    swapping_next c.loop-block.invariant
+    (subst (λ (x : ℕ). Swapped s (c.loop-block.block * 2 ^ s) x c.loop-block.part c.swap_block.new.part) (sym next)
+    (subst (λ (x : ℕ). Swapped s x (x + 2 ^ s) c.loop-block.part c.swap_block.new.part) start c.swap_block.ensures))
+    (omega arith) (omega arith)
 
 pub returns : goal.returns
 returns c =
-    swapping_all c.loop-first.invariant.1 c.loop-first-test.false c.place-pairs.ensures
+    let past : 2 ^ c.args.last ≤ c.loop-block.block * 2 ^ c.args.s =
+    subst (λ (x : ℕ). x ≤ c.loop-block.block * 2 ^ c.args.s) (blocks c.args.s c.args.last c.requires.s_le_last)
+    (mul-le-mul_right (2 ^ c.args.s) (subst (λ (x : ℕ). x ≤ c.loop-block.block) c.place-block-end.ensures c.loop-block-test.false)) in
+    swapping_all c.loop-block.invariant past refl

@@ -6,6 +6,3 @@ use Rattle.columns.proofs.turn.Given as goal
 
 abbrev pub invariant-loop-s : goal.invariant-loop-s
 invariant-loop-s l = Turning l.count l.s l.initial.part l.part
-
-abbrev pub decreases-loop-s : goal.decreases-loop-s
-decreases-loop-s l = digits - l.s

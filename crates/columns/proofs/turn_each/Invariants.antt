@@ -5,6 +5,3 @@ use Rattle.columns.proofs.turn_each.Given as goal
 
 abbrev pub invariant-loop-p : goal.invariant-loop-p
 invariant-loop-p l = Turns l.initial.out l.n l.count l.p l.out
-
-abbrev pub decreases-loop-p : goal.decreases-loop-p
-decreases-loop-p l = l.n - l.p
