@@ -51,17 +51,9 @@ compare_next {rows = rows} {p} {i} h l ex ey e = record {
 pub compare_all : {k : ℕ} {rows : List ℕ} {p i found : ℕ} → Compared k rows p i found → k ≤ i → eqb found 0 ≡ as_first k rows p
 compare_all {rows = rows} {p} h g = h.none ∙ ap (λ (m : ℕ). as_first m rows p) (le_antisymm h.within g)
 
--- ---- the loop over threads, from the second on
-
-pub first_alike : (k : ℕ) (rows : List ℕ) → all 1 (as_first k rows) ≡ true
-first_alike k rows =
-    all_more 0 (as_first k rows) (all_none (as_first k rows)) (all_make k (λ a. eqb (row_in rows 0 a) (row_in rows 0 a)) (λ a l. eq-eqb (row_in rows 0 a) (row_in rows 0 a) refl))
-
-pub next-alike : (k : ℕ) (rows : List ℕ) (p : ℕ) {x : Bool} → all p (as_first k rows) ≡ true → x ≡ as_first k rows p → not x ≡ false → all (p + 1) (as_first k rows) ≡ true
-next-alike k rows p {x} h e t = all_more p (as_first k rows) h (sym e ∙ not-false x t)
-
-pub all_alike : (n k : ℕ) (rows : List ℕ) (p : ℕ) → all p (as_first k rows) ≡ true → n ≤ p → true ≡ alike_in n k rows
-all_alike n k rows p h g = sym (all_make n (as_first k rows) (λ q l. all_get p (as_first k rows) h q (omega arith)))
+-- ---- the first thread's rows are its own
+pub first_alike : (k : ℕ) (rows : List ℕ) → as_first k rows 0 ≡ true
+first_alike k rows = all_make k (λ a. eqb (row_in rows 0 a) (row_in rows 0 a)) (λ a l. eq-eqb (row_in rows 0 a) (row_in rows 0 a) refl)
 
 -- ---- all threads have the first one's order
 module _ (n k : ℕ) (rows : List ℕ) (alike : alike_in n k rows ≡ true) where

@@ -173,12 +173,7 @@ pub fn alike(rows: &[u64; Case::MOST_THREADS * Case::MOST_EVENTS], n: usize, k: 
     requires k_le_most_events { k ≤ most_events }
     ensures { result ≡ alike_in n k rows.now }
 {
-    for p in 1..n {
-        if !as_first(rows, k, p) {
-            return false;
-        }
-    }
-    true
+    (1..n).all(|p| as_first(rows, k, p))
 }
 
 // How many threads' orders decide rule 11, from the first thread's on: one where all are alike, else each.
@@ -197,13 +192,7 @@ pub fn rule11(rows: &[u64; Case::MOST_THREADS * Case::MOST_EVENTS], n: usize, k:
     requires k_le_most_events { k ≤ most_events }
     ensures { result ≡ may11 n k (order_in rows.now) (order_in rows.now) }
 {
-    let few = deciding(rows, n, k);
-    for p in 0..few {
-        if !closed_order(rows, k, p) {
-            return false;
-        }
-    }
-    true
+    (0..deciding(rows, n, k)).all(|p| closed_order(rows, k, p))
 }
 
 // What comes after event e in every thread's order. The last thread stands for those that are missing, so that the loop has a fixed

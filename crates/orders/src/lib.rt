@@ -42,12 +42,7 @@ fn closed_order(
     requires p_lt_most_threads { p < most_threads }
     ensures { result ≡ all k (closed k (order_in known.now p) (order_in asked.now p)) }
 {
-    for a in 0..k {
-        if !closed_row(known, asked, k, p, a) {
-            return false;
-        }
-    }
-    true
+    (0..k).all(|a| closed_row(known, asked, k, p, a))
 }
 
 // Rule 11, a whole row at once. Judging has a test of one order, `one_order::rule11`.
@@ -61,12 +56,7 @@ pub fn rule11(
     requires k_le_most_events { k ≤ most_events }
     ensures { result ≡ may11 n k (order_in known.now) (order_in asked.now) }
 {
-    for p in 0..n {
-        if !closed_order(known, asked, k, p) {
-            return false;
-        }
-    }
-    true
+    (0..n).all(|p| closed_order(known, asked, k, p))
 }
 
 // Three events: where a comes before b and b before d, a comes before d.
@@ -103,12 +93,7 @@ fn closed_pair_by_threes(
     requires b_lt_k { b < k }
     ensures { result ≡ all k (transitive_at (order_in known.now p) (order_in asked.now p) a b) }
 {
-    for d in 0..k {
-        if !three(known, asked, p, a, b, d) {
-            return false;
-        }
-    }
-    true
+    (0..k).all(|d| three(known, asked, p, a, b, d))
 }
 
 // Event a of thread p's order, with every second and third.
@@ -124,15 +109,8 @@ fn closed_by_threes(
     requires a_lt_k { a < k }
     ensures { result ≡ closed k (order_in known.now p) (order_in asked.now p) a }
 {
-    if rows::precedes(known, p, a, a) {
-        return false;
-    }
-    for b in 0..k {
-        if !closed_pair_by_threes(known, asked, k, p, a, b) {
-            return false;
-        }
-    }
-    true
+    !rows::precedes(known, p, a, a)
+        && (0..k).all(|b| closed_pair_by_threes(known, asked, k, p, a, b))
 }
 
 // Thread p's order is irreflexive and transitive, by every three events.
@@ -146,12 +124,7 @@ fn closed_order_by_threes(
     requires p_lt_most_threads { p < most_threads }
     ensures { result ≡ all k (closed k (order_in known.now p) (order_in asked.now p)) }
 {
-    for a in 0..k {
-        if !closed_by_threes(known, asked, k, p, a) {
-            return false;
-        }
-    }
-    true
+    (0..k).all(|a| closed_by_threes(known, asked, k, p, a))
 }
 
 // Rule 11 by every three events: the plain test beside the one that takes whole rows, with the same contract.
@@ -165,12 +138,7 @@ pub fn rule11_by_threes(
     requires k_le_most_events { k ≤ most_events }
     ensures { result ≡ may11 n k (order_in known.now) (order_in asked.now) }
 {
-    for p in 0..n {
-        if !closed_order_by_threes(known, asked, k, p) {
-            return false;
-        }
-    }
-    true
+    (0..n).all(|p| closed_order_by_threes(known, asked, k, p))
 }
 
 // Event a of thread p and every other of its events are ordered.
@@ -221,12 +189,7 @@ pub fn rule12(
     requires k_le_most_events { k ≤ most_events }
     ensures { result ≡ may12 n k (set_in own.now) (order_in asked.now) }
 {
-    for p in 0..n {
-        if !connected_order(own[p], asked, k, p) {
-            return false;
-        }
-    }
-    true
+    (0..n).all(|p| connected_order(own[p], asked, k, p))
 }
 
 // Of thread p's events, those before which a has to stay if it is listed before them: all where a is a barrier, else the barriers,
@@ -300,12 +263,7 @@ pub fn rule13(
     requires k_le_most_events { k ≤ most_events }
     ensures { result ≡ may13 n k (set_in own.now) (bit barriers) (set_in partners.now) (set_in dependents.now) (order_in asked.now) }
 {
-    for p in 0..n {
-        if !listed_order(own[p], barriers, partners, dependents, asked, k, p) {
-            return false;
-        }
-    }
-    true
+    (0..n).all(|p| listed_order(own[p], barriers, partners, dependents, asked, k, p))
 }
 
 // In the write order of address x, count stores long, a stands before every event of the set.

@@ -3,3 +3,4 @@ pub mod SetLaws
 pub mod AsRules
 pub mod Visits
 pub mod Each
+pub mod Ranges

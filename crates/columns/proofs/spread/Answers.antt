@@ -3,10 +3,6 @@ use native.Mathlib.Omega.{arith}
 use Rattle.columns.proofs.Digits.{row_fits}
 use Rattle.columns.proofs.spread.Goals as goal
 
-pub overflow_add-result : goal.overflow_add-result
-overflow_add-result c =
-    let h = row_fits _ _ _ c.requires.s_lt_digits c.requires.s_value c.requires.t_bound in record { fits = omega arith }
-
 pub returns : goal.returns
 returns c =
     row_fits _ _ _ c.requires.s_lt_digits c.requires.s_value c.requires.t_bound

@@ -8,18 +8,6 @@ pub loop-s-init : goal.loop-s-init
 loop-s-init c =
     turning_begun _ _
 
-pub swap_digit-requires-clause-s_lt_digits : goal.swap_digit-requires-clause-s_lt_digits
-swap_digit-requires-clause-s_lt_digits c =
-    omega arith
-
-pub swap_digit-requires-clause-count_le_digits : goal.swap_digit-requires-clause-count_le_digits
-swap_digit-requires-clause-count_le_digits c =
-    c.requires.count_le_digits
-
-pub swap_digit-requires-clause-part_len : goal.swap_digit-requires-clause-part_len
-swap_digit-requires-clause-part_len c =
-    c.loop-s.invariant.long ∙ c.requires.part_len
-
 pub loop-s-preserved : goal.loop-s-preserved
 loop-s-preserved c =
     turning_next c.loop-s.invariant c.requires.count_le_digits c.swap_digit.ensures

@@ -9,7 +9,3 @@ loop-a-init c =
 pub loop-a-preserved : goal.loop-a-preserved
 loop-a-preserved c =
     compare_next c.loop-a.invariant c.loop-a-test.true c.row.ensures c.row-in-loop-a.ensures c.differing-found.ensures
-
-pub returns : goal.returns
-returns c =
-    compare_all c.loop-a.invariant c.loop-a-test.false

@@ -10,11 +10,3 @@ loop-a-init c =
 pub bounds-out-size : goal.bounds-out-size
 bounds-out-size c =
     size_fits c.args.k c.row.result (search rules) c.size_below-size.ensures
-
-pub loop-a-preserved : goal.loop-a-preserved
-loop-a-preserved c =
-    names c.loop-a.invariant c.loop-a-test.true (search rules) (size_fits c.args.k c.row.result (search rules) c.size_below-size.ensures)
-
-pub returns : goal.returns
-returns c =
-    c.loop-a.invariant.named

@@ -2,17 +2,9 @@
 use Rattle.one_order.proofs.Covers.{rows-begun, rows_fail, rows_next, rows_end}
 use Rattle.one_order.proofs.covered_order.Goals as goal
 
-pub loop-a-init : goal.loop-a-init
-loop-a-init c =
-    rows-begun
-
 pub returns-then-not-covered_row : goal.returns-then-not-covered_row
 returns-then-not-covered_row c =
     search rows_fail
-
-pub loop-a-preserved : goal.loop-a-preserved
-loop-a-preserved c =
-    search rows_next
 
 pub returns : goal.returns
 returns c =

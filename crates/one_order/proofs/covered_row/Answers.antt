@@ -2,10 +2,6 @@
 use Rattle.one_order.proofs.Covers.{cover_no, cover-none, cover-fails, cover-less, cover-next}
 use Rattle.one_order.proofs.covered_row.Goals as goal
 
-pub returns-then-has : goal.returns-then-has
-returns-then-has c =
-    cover_no c.args.rows.now c.args.k c.args.p c.args.a c.row-mine.ensures c.has.ensures c.if-has.true
-
 pub loop-b-init : goal.loop-b-init
 loop-b-init c =
     cover-none c.requires.k_le_most_events c.row-mine.ensures c.has.ensures c.if-has.false c.below-events.ensures c.minus-others.ensures c.both.ensures c.members-rest.ensures

@@ -13,10 +13,6 @@ pub loop-q-init : goal.loop-q-init
 loop-q-init c =
     join_first (omega arith) (as_set (c.row-shared.ensures ∙ ap (λ (q : ℕ). row_in c.args.rows.now q c.args.e) (sym (zero-min (c.args.n - 1)))))
 
-pub row-requires-clause-p_lt_most_threads : goal.row-requires-clause-p_lt_most_threads
-row-requires-clause-p_lt_most_threads c =
-    omega (arith, c.min.ensures, c.requires.le_n, c.requires.n_le_most_threads)
-
 pub loop-q-preserved : goal.loop-q-preserved
 loop-q-preserved c =
     join_next c.loop-q.invariant c.loop-q-test.true

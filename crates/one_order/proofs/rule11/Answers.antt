@@ -1,38 +1,18 @@
 -- `one_order::rule11` meets its contract. Assumes nothing.
-use native.Mathlib.Omega.{arith}
-use mathlib.Core.Path.{◌∙◌}
-use Rattle.finite.proofs.Loops.{begun, fails, passes, ends}
+use Prim.Native.Nat.{ℕ}
+use mathlib.Core.Path.{refl, ◌∙◌}
+use borrow.Author.Rules.{rules}
+use borrow.Author.Tests.{tests}
+use Rattle.finite.specs.Tests.{all}
+use Rattle.rows.specs.Sets.{order_in}
 use Rattle.rows.specs.May.{may11}
-use mathlib.Core.Path.{ap}
-use mathlib.Core.Bool.{not}
+use Rattle.rows.proofs.Ranges.{all_below}
+use Rattle.orders.specs.Parts.{closed}
 use Rattle.one_order.proofs.rule11.Goals as goal
-
-pub loop-p-init : goal.loop-p-init
-unfolding may11
-loop-p-init c =
-    begun
-
-pub returns-then-not-closed_order : goal.returns-then-not-closed_order
-unfolding may11
-returns-then-not-closed_order c =
-    fails c.loop-p.invariant c.loop-p-test.true c.closed_order.ensures (ap not c.if-not-closed_order.true) ∙ c.deciding-few.ensures.rows_value
-
-pub overflow_step-p : goal.overflow_step-p
-unfolding may11
-overflow_step-p c =
-    omega arith
-
-pub loop-p-smaller : goal.loop-p-smaller
-unfolding may11
-loop-p-smaller c =
-    omega arith
-
-pub loop-p-preserved : goal.loop-p-preserved
-unfolding may11
-loop-p-preserved c =
-    search passes
 
 pub returns : goal.returns
 unfolding may11
 returns c =
-    ends c.loop-p.invariant c.loop-p-test.false ∙ c.deciding-few.ensures.rows_value
+    let s = c.args in
+    all_below c.deciding.result (λ p. all s.k (closed s.k (order_in s.rows.now p) (order_in s.rows.now p))) c.all.ensures.ran refl (λ x b q k. search (rules, tests))
+    ∙ c.deciding.ensures.rows_value

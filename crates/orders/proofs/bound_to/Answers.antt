@@ -3,10 +3,6 @@ use mathlib.Core.Path.{sym, ◌∙◌}
 use Rattle.orders.proofs.Laws.{bound_barrier, bound_other}
 use Rattle.orders.proofs.bound_to.Goals as goal
 
-pub returns-then-has : goal.returns-then-has
-returns-then-has c =
-    bound_barrier c.args.own c.args.barriers c.args.partner c.args.dependent c.args.a (sym c.has.ensures ∙ c.if-has.true)
-
 pub returns-else-has : goal.returns-else-has
 returns-else-has c =
     bound_other c.args.own c.args.barriers c.args.partner c.args.dependent c.args.a (sym c.has.ensures ∙ c.if-has.false)

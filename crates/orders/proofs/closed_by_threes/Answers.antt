@@ -1,30 +1,19 @@
 -- `orders::closed_by_threes` meets its contract. Assumes nothing.
-use mathlib.Core.Path.{sym, ◌∙◌}
-use Rattle.finite.proofs.Loops.{begun, fails, passes, ends}
-use Rattle.rows.specs.Sets.{order_in}
-use Rattle.orders.proofs.Laws.{closed_no, closed_threes}
-use mathlib.Core.Path.{ap}
-use mathlib.Core.Bool.{not}
+use Prim.Native.Nat.{ℕ}
+use mathlib.Core.Path.{refl, sym, ◌∙◌}
+use borrow.Author.Rules.{rules}
+use borrow.Author.Tests.{tests}
+use Rattle.finite.specs.Tests.{all}
+use Rattle.bits.specs.Bit.{bit}
+use Rattle.rows.specs.Sets.{order_in, set_in}
+use Rattle.rows.specs.May.{may11, may12, may13}
+use Rattle.rows.proofs.Ranges.{all_below}
+use Rattle.orders.specs.Parts.{closed, transitive_at, connected, listed}
+use Rattle.orders.proofs.Laws.{closed_threes, by_listing}
 use Rattle.orders.proofs.closed_by_threes.Goals as goal
 
-pub returns-then-precedes : goal.returns-then-precedes
-returns-then-precedes c =
-    closed_no c.args.k (order_in c.args.known.now c.args.p) (order_in c.args.asked.now c.args.p) c.args.a (sym c.precedes.ensures ∙ c.if-precedes.true)
-
-pub loop-b-init : goal.loop-b-init
-loop-b-init c =
-    begun
-
-pub returns-then-not-closed_pair_by_threes : goal.returns-then-not-closed_pair_by_threes
-returns-then-not-closed_pair_by_threes c =
-    fails c.loop-b.invariant c.loop-b-test.true c.closed_pair_by_threes.ensures (ap not c.if-not-closed_pair_by_threes.true)
-    ∙ closed_threes c.args.k (order_in c.args.known.now c.args.p) (order_in c.args.asked.now c.args.p) c.args.a (sym c.precedes.ensures ∙ c.if-precedes.false)
-
-pub loop-b-preserved : goal.loop-b-preserved
-loop-b-preserved c =
-    search passes
-
-pub returns : goal.returns
-returns c =
-    ends c.loop-b.invariant c.loop-b-test.false
-    ∙ closed_threes c.args.k (order_in c.args.known.now c.args.p) (order_in c.args.asked.now c.args.p) c.args.a (sym c.precedes.ensures ∙ c.if-precedes.false)
+pub returns-then-not-precedes : goal.returns-then-not-precedes
+returns-then-not-precedes c =
+    let s = c.args in
+    all_below s.k (λ b. all s.k (transitive_at (order_in s.known.now s.p) (order_in s.asked.now s.p) s.a b)) c.all.ensures.ran refl (λ x b q k. search (rules, tests))
+    ∙ closed_threes s.k (order_in s.known.now s.p) (order_in s.asked.now s.p) s.a (sym c.precedes.ensures ∙ c.if-not-precedes.true)

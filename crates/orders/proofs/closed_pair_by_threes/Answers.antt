@@ -1,19 +1,18 @@
 -- `orders::closed_pair_by_threes` meets its contract. Assumes nothing.
-use Rattle.finite.proofs.Loops.{begun, fails, passes, ends}
+use Prim.Native.Nat.{ℕ}
+use mathlib.Core.Path.{refl, sym, ◌∙◌}
+use borrow.Author.Rules.{rules}
+use borrow.Author.Tests.{tests}
+use Rattle.finite.specs.Tests.{all}
+use Rattle.bits.specs.Bit.{bit}
+use Rattle.rows.specs.Sets.{order_in, set_in}
+use Rattle.rows.specs.May.{may11, may12, may13}
+use Rattle.rows.proofs.Ranges.{all_below}
+use Rattle.orders.specs.Parts.{closed, transitive_at, connected, listed}
+use Rattle.orders.proofs.Laws.{closed_threes, by_listing}
 use Rattle.orders.proofs.closed_pair_by_threes.Goals as goal
-
-pub loop-d-init : goal.loop-d-init
-loop-d-init c =
-    begun
-
-pub returns-then-not-three : goal.returns-then-not-three
-returns-then-not-three c =
-    search fails
-
-pub loop-d-preserved : goal.loop-d-preserved
-loop-d-preserved c =
-    search passes
 
 pub returns : goal.returns
 returns c =
-    search ends
+    let s = c.args in
+    all_below s.k (transitive_at (order_in s.known.now s.p) (order_in s.asked.now s.p) s.a s.b) c.all.ensures.ran refl (λ x b q k. search (rules, tests))

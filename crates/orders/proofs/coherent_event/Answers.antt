@@ -15,10 +15,6 @@ use Rattle.orders.specs.Parts.{writes_in, written_in}
 use Rattle.orders.proofs.Laws.{count_set}
 use Rattle.orders.proofs.coherent_event.Goals as goal
 
-pub in_write_order-requires-clause-x_lt_most_addresses : goal.in_write_order-requires-clause-x_lt_most_addresses
-in_write_order-requires-clause-x_lt_most_addresses c =
-    omega (arith, c.from.ensures, c.requires.a_bound)
-
 pub in_write_order-requires-clause-count_le_k : goal.in_write_order-requires-clause-count_le_k
 in_write_order-requires-clause-count_le_k c =
     let long : c.size_below-count.result ≡ count c.args.k (store_in c.args.stores c.args.partners.now c.args.a)

@@ -16,10 +16,6 @@ pub returns-then-e-a : goal.returns-then-e-a
 returns-then-e-a c =
     met c.args.k c.args.set c.args.a c.args.count (λ j. get_or c.args.writes.now (c.args.x * most_events + j) 0) c.loop-i.invariant c.loop-i-test.true (sym c.from-e.ensures ∙ c.if-e-a.true)
 
-pub has-requires : goal.has-requires
-has-requires c =
-    omega (arith, c.requires.by_index c.loop-i.i c.loop-i-test.true)
-
 pub returns-then-has : goal.returns-then-has
 returns-then-has c =
     passed c.args.k c.args.set c.args.a c.args.count (λ j. get_or c.args.writes.now (c.args.x * most_events + j) 0) c.loop-i.invariant c.loop-i-test.true (λ h. c.if-e-a.false (c.from-e.ensures ∙ h)) (c.requires.by_index c.loop-i.i c.loop-i-test.true) (ap (bit c.args.set) (sym c.from-e.ensures) ∙ sym c.has.ensures ∙ c.if-has.true)

@@ -1,35 +1,19 @@
 -- `orders::rule11_by_threes` meets its contract. Assumes nothing.
-use native.Mathlib.Omega.{arith}
-use Rattle.finite.proofs.Loops.{begun, fails, passes, ends}
-use Rattle.rows.specs.May.{may11}
+use Prim.Native.Nat.{ℕ}
+use mathlib.Core.Path.{refl, sym, ◌∙◌}
+use borrow.Author.Rules.{rules}
+use borrow.Author.Tests.{tests}
+use Rattle.finite.specs.Tests.{all}
+use Rattle.bits.specs.Bit.{bit}
+use Rattle.rows.specs.Sets.{order_in, set_in}
+use Rattle.rows.specs.May.{may11, may12, may13}
+use Rattle.rows.proofs.Ranges.{all_below}
+use Rattle.orders.specs.Parts.{closed, transitive_at, connected, listed}
+use Rattle.orders.proofs.Laws.{closed_threes, by_listing}
 use Rattle.orders.proofs.rule11_by_threes.Goals as goal
-
-pub loop-p-init : goal.loop-p-init
-unfolding may11
-loop-p-init c =
-    begun
-
-pub returns-then-not-closed_order_by_threes : goal.returns-then-not-closed_order_by_threes
-unfolding may11
-returns-then-not-closed_order_by_threes c =
-    search fails
-
-pub overflow_step-p : goal.overflow_step-p
-unfolding may11
-overflow_step-p c =
-    omega arith
-
-pub loop-p-smaller : goal.loop-p-smaller
-unfolding may11
-loop-p-smaller c =
-    omega arith
-
-pub loop-p-preserved : goal.loop-p-preserved
-unfolding may11
-loop-p-preserved c =
-    search passes
 
 pub returns : goal.returns
 unfolding may11
 returns c =
-    search ends
+    let s = c.args in
+    all_below s.n (λ p. all s.k (closed s.k (order_in s.known.now p) (order_in s.asked.now p))) c.all.ensures.ran refl (λ x b q k. search (rules, tests))

@@ -1,23 +1,18 @@
 -- `orders::rule13` meets its contract. Assumes nothing.
-use mathlib.Core.Path.{◌∙◌}
-use Rattle.finite.proofs.Loops.{begun, fails, passes, ends}
-use Rattle.orders.proofs.Laws.{by_listing}
-use mathlib.Core.Path.{ap}
-use mathlib.Core.Bool.{not}
+use Prim.Native.Nat.{ℕ}
+use mathlib.Core.Path.{refl, sym, ◌∙◌}
+use borrow.Author.Rules.{rules}
+use borrow.Author.Tests.{tests}
+use Rattle.finite.specs.Tests.{all}
+use Rattle.bits.specs.Bit.{bit}
+use Rattle.rows.specs.Sets.{order_in, set_in}
+use Rattle.rows.specs.May.{may11, may12, may13}
+use Rattle.rows.proofs.Ranges.{all_below}
+use Rattle.orders.specs.Parts.{closed, transitive_at, connected, listed}
+use Rattle.orders.proofs.Laws.{closed_threes, by_listing}
 use Rattle.orders.proofs.rule13.Goals as goal
-
-pub loop-p-init : goal.loop-p-init
-loop-p-init c =
-    begun
-
-pub returns-then-not-listed_order : goal.returns-then-not-listed_order
-returns-then-not-listed_order c =
-    fails c.loop-p.invariant c.loop-p-test.true c.listed_order.ensures (ap not c.if-not-listed_order.true) ∙ by_listing _ _ _ _ _ _ _
-
-pub loop-p-preserved : goal.loop-p-preserved
-loop-p-preserved c =
-    search passes
 
 pub returns : goal.returns
 returns c =
-    ends c.loop-p.invariant c.loop-p-test.false ∙ by_listing _ _ _ _ _ _ _
+    let s = c.args in
+    all_below s.n (λ p. all s.k (listed s.k (set_in s.own.now p) (bit s.barriers) (set_in s.partners.now) (set_in s.dependents.now) (order_in s.asked.now p))) c.all.ensures.ran refl (λ x b q k. search (rules, tests)) ∙ by_listing _ _ _ _ _ _ _
