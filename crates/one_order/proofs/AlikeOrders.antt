@@ -4,13 +4,13 @@ use Prim.Native.Nat.{ℕ, ◌+◌, ◌≤◌, ◌<◌}
 use native.Mathlib.Nat.{le_antisymm}
 use native.Mathlib.Omega.{arith}
 use mathlib.Core.Path.{◌≡◌, refl, sym, ap, ap₂, ◌∙◌}
-use mathlib.Core.Bool.{Bool, true, false, not, ◌&&◌}
+use mathlib.Core.Bool.{Bool, true, not, ◌&&◌}
 use mathlib.Core.List.{List}
 use lib.Bits.{bit_or, bit_xor, and_le_l, and_le_r, or_add_and, xor_add_and, or_zero_l, xor_self}
 use lib.Dec.{eqb}
-use borrow.Author.Tests.{eqb-true, eq-eqb, not-false}
+use borrow.Author.Tests.{eqb-true, eq-eqb}
 use Rattle.finite.specs.Tests.{all, ◌⇒◌}
-use Rattle.finite.proofs.Tests.{iff, and_i, and_l, and_r, imp_e, imp_i, all_none, all-next, all_get, all_make, all_more, all_same}
+use Rattle.finite.proofs.Tests.{iff, and_i, and_l, and_r, imp_e, imp_i, all_none, all-next, all_get, all_make, all_same}
 use Rattle.bits.specs.Bit.{bit}
 use Rattle.rows.specs.Sets.{row_in, order_in}
 use Rattle.rows.specs.May.{may11, may17, may18}

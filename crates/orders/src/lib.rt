@@ -281,8 +281,9 @@ fn in_write_order(
     requires by_index { (i : ℕ) → i < count → get_or writes.now (x * most_events + i) 0 < k }
     ensures { result ≡ all k (λ b. bit set b ⇒ first a b (writes_in writes.now x count)) }
 {
-    for i in 0..count {
-        let e = usize::from(writes[x * Case::MOST_EVENTS + i]);
+    let start = x * Case::MOST_EVENTS;
+    for store in &writes[start..start + count] {
+        let e = usize::from(*store);
         if e == a {
             return true;
         }

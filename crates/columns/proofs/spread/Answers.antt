@@ -1,5 +1,4 @@
 -- `columns::spread` meets its contract. Assumes nothing.
-use native.Mathlib.Omega.{arith}
 use Rattle.columns.proofs.Digits.{row_fits}
 use Rattle.columns.proofs.spread.Goals as goal
 

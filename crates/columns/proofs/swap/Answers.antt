@@ -1,6 +1,4 @@
 -- `columns::swap` meets its contract. Assumes nothing.
-use native.Mathlib.Omega.{arith}
-use lib.ListN.{length-set}
 use Rattle.columns.proofs.Exchange.{exchanged}
 use Rattle.columns.proofs.swap.Goals as goal
 

@@ -1,9 +1,7 @@
 -- `columns::swap_block` meets its contract. Assumes nothing.
-use Prim.Native.Nat.{ℕ, ◌+◌}
 use native.Mathlib.Omega.{arith}
-use mathlib.Core.Path.{◌∙◌, ap}
 use Rattle.columns.proofs.Digits.{block_at}
-use Rattle.columns.proofs.Turns.{swapping_begun, swapping_next, swapping_all}
+use Rattle.columns.proofs.Turns.{swapping_next}
 use Rattle.columns.proofs.swap_block.Goals as goal
 
 pub swap-requires-clause-s_value : goal.swap-requires-clause-s_value

@@ -1,5 +1,4 @@
 -- `columns::swap_block` meets its contract. Assumes nothing.
-use Prim.Native.Nat.{◌-◌}
 use Rattle.columns.proofs.Turns.{Swapping}
 use Rattle.columns.proofs.swap_block.Given as goal
 

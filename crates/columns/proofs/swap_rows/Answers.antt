@@ -2,7 +2,7 @@
 use Prim.Native.Nat.{ℕ, ◌+◌, ◌*◌, ◌^◌, ◌≤◌, ◌<◌}
 use native.Mathlib.Omega.{arith}
 use native.Mathlib.Nat.{mul-le-mul_right}
-use mathlib.Core.Path.{◌≡◌, refl, sym, ap, ◌∙◌, subst}
+use mathlib.Core.Path.{◌≡◌, refl, sym, ap, subst}
 use Rattle.columns.specs.Swaps.{Swapped}
 use Rattle.columns.proofs.Digits.{half_le, blocks, block_fits, block_next}
 use Rattle.columns.proofs.Turns.{swapping_next, swapping_all}

@@ -1,6 +1,5 @@
 -- `columns::turn` meets its contract. Assumes nothing.
 use native.Mathlib.Omega.{arith}
-use mathlib.Core.Path.{◌∙◌}
 use Rattle.columns.proofs.Turns.{turning_begun, turning_next, turning_all}
 use Rattle.columns.proofs.turn.Goals as goal
 

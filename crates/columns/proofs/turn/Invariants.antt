@@ -1,6 +1,4 @@
 -- `columns::turn` meets its contract. Assumes nothing.
-use Prim.Native.Nat.{◌-◌}
-use Rattle.columns.specs.Swaps.{digits}
 use Rattle.columns.proofs.Turns.{Turning}
 use Rattle.columns.proofs.turn.Given as goal
 

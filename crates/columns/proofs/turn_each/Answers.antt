@@ -1,9 +1,6 @@
 -- `columns::turn_each` meets its contract. Assumes nothing.
-use native.Mathlib.Omega.{arith}
-use mathlib.Core.Path.{◌∙◌, sym}
-use lib.ListN.{length-take, length-drop}
 use Rattle.case.proofs.Pad.{step-size}
-use Rattle.columns.proofs.Turns.{turns-begun, turns_next, turns-all}
+use Rattle.columns.proofs.Turns.{turns_next}
 use Rattle.columns.proofs.turn_each.Goals as goal
 
 pub loop-p-preserved : goal.loop-p-preserved

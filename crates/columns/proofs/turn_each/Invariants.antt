@@ -1,5 +1,4 @@
 -- `columns::turn_each` meets its contract. Assumes nothing.
-use Prim.Native.Nat.{◌-◌}
 use Rattle.columns.proofs.Turns.{Turns}
 use Rattle.columns.proofs.turn_each.Given as goal
 

@@ -1,5 +1,5 @@
 -- `one_order::as_first` meets its contract. Assumes nothing.
-use Rattle.one_order.proofs.AlikeOrders.{compare_none, compare_next, compare_all}
+use Rattle.one_order.proofs.AlikeOrders.{compare_none, compare_next}
 use Rattle.one_order.proofs.as_first.Goals as goal
 
 pub loop-a-init : goal.loop-a-init

@@ -1,6 +1,6 @@
 -- `one_order::by_size` meets its contract. Assumes nothing.
 use borrow.Author.Rules.{rules}
-use Rattle.one_order.proofs.FinalParts.{unnamed, size_fits, names}
+use Rattle.one_order.proofs.FinalParts.{unnamed, size_fits}
 use Rattle.one_order.proofs.by_size.Goals as goal
 
 pub loop-a-init : goal.loop-a-init

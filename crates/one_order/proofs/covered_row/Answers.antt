@@ -1,5 +1,5 @@
 -- `one_order::covered_row` meets its contract. Assumes nothing.
-use Rattle.one_order.proofs.Covers.{cover_no, cover-none, cover-fails, cover-less, cover-next}
+use Rattle.one_order.proofs.Covers.{cover-none, cover-fails, cover-less, cover-next}
 use Rattle.one_order.proofs.covered_row.Goals as goal
 
 pub loop-b-init : goal.loop-b-init

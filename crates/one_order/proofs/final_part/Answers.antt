@@ -1,5 +1,4 @@
 -- `one_order::final_part` meets its contract. Assumes nothing.
-use native.Mathlib.Omega.{arith}
 use Rattle.rows.specs.Sets.{order_in}
 use Rattle.one_order.proofs.FinalParts.{part-next, follow_part}
 use Rattle.one_order.proofs.final_part.Goals as goal

@@ -1,6 +1,6 @@
 -- `orders::bound_to` meets its contract. Assumes nothing.
 use mathlib.Core.Path.{sym, ◌∙◌}
-use Rattle.orders.proofs.Laws.{bound_barrier, bound_other}
+use Rattle.orders.proofs.Laws.{bound_other}
 use Rattle.orders.proofs.bound_to.Goals as goal
 
 pub returns-else-has : goal.returns-else-has

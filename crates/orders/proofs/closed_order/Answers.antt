@@ -1,15 +1,10 @@
 -- `orders::closed_order` meets its contract. Assumes nothing.
-use Prim.Native.Nat.{ℕ}
-use mathlib.Core.Path.{refl, sym, ◌∙◌}
+use mathlib.Core.Path.{refl}
 use borrow.Author.Rules.{rules}
 use borrow.Author.Tests.{tests}
-use Rattle.finite.specs.Tests.{all}
-use Rattle.bits.specs.Bit.{bit}
-use Rattle.rows.specs.Sets.{order_in, set_in}
-use Rattle.rows.specs.May.{may11, may12, may13}
+use Rattle.rows.specs.Sets.{order_in}
 use Rattle.rows.proofs.Ranges.{all_below}
-use Rattle.orders.specs.Parts.{closed, transitive_at, connected, listed}
-use Rattle.orders.proofs.Laws.{closed_threes, by_listing}
+use Rattle.orders.specs.Parts.{closed}
 use Rattle.orders.proofs.closed_order.Goals as goal
 
 pub returns : goal.returns

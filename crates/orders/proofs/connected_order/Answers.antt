@@ -1,6 +1,5 @@
 -- `orders::connected_order` meets its contract. Assumes nothing.
-use Rattle.rows.proofs.Each.{pass_first, event_below, event_of, pass_next, pass_fails, pass_end}
-use Rattle.finite.proofs.Tests.{imp_no}
+use Rattle.rows.proofs.Each.{pass_fails, pass_end}
 use Rattle.orders.proofs.connected_order.Goals as goal
 
 pub returns-then-not-connected_event : goal.returns-then-not-connected_event

@@ -2,8 +2,7 @@
 use mathlib.Core.Path.{◌∙◌}
 use Rattle.bits.specs.Bit.{bit}
 use Rattle.rows.specs.Sets.{order_in, store_in}
-use Rattle.rows.proofs.Each.{pass_first, event_below, event_of, pass_next, pass_fails, pass_end}
-use Rattle.finite.proofs.Tests.{imp_no}
+use Rattle.rows.proofs.Each.{pass_fails, pass_end}
 use Rattle.orders.specs.Parts.{written_in}
 use Rattle.orders.proofs.Laws.{by_store}
 use Rattle.orders.proofs.rule14.Goals as goal
