@@ -13,9 +13,10 @@ use Rattle.number.specs.Reader.{Out, stop, next, tested, unless, onward}
 use Rattle.model.specs.Limits.{most_value}
 use Rattle.model.specs.Case.{load}
 use Rattle.condition_model.specs.Grammar.{Factor, Factor.memory_is, Factor.load_is, letter_m, letter_e}
-use Rattle.condition_model.specs.Reader.{is, skipped, number, number_in, label, valued, equation_by, equation_at}
+use Rattle.condition_model.specs.Reader.{is, skipped, sign, choose, number, number_in, label, valued, equation_by, equation_at}
 use Rattle.condition_model.specs.Truth.{truth_f}
-use Rattle.condition_reader.specs.Told.{map_out, value_in, is_address, is_load, is_value, held_ranges, equation_truth}
+use Rattle.condition_reader.specs.Told.{map_out, value_in, is_address, is_load, is_value, is_named, values_by, held_at, Small, held_ranges, equation_truth}
+use Rattle.std.proofs.Common.{Option, None, Some}
 
 -- ---- a label and its value
 
@@ -34,13 +35,9 @@ load_below kinds e h = ltb-true e (length kinds) (and_l (ltb e (length kinds)) (
 pub narrow_load : (kinds : List ℕ) → length kinds ≤ most_value + 1 → Narrow (is_load kinds)
 narrow_load kinds l = record { narrow = λ v h. le-leb v most_value (omega (arith, load_below kinds v h)) }
 
--- what the tests tell of the lists' lengths
-pub address-inside : (t : Bool) (a : ℕ) (finals : List ℕ) → t ≡ is_address finals a → t ≡ true → a < length finals
-unfolding is_address
-address-inside t a finals e h = ltb-true a (length finals) (sym e ∙ h)
-
-pub load_inside : (t : Bool) (e : ℕ) (kinds values : List ℕ) → t ≡ is_load kinds e → t ≡ true → length kinds ≤ length values → e < length values
-load_inside t e kinds values k h l = omega (arith, load_below kinds e (sym k ∙ h))
+pub narrow_named : (m : Bool) (finals kinds values : List ℕ) → Small finals kinds values → Narrow (is_named m finals kinds)
+narrow_named true finals kinds values S = narrow_address finals S.addresses
+narrow_named false finals kinds values S = narrow_load kinds S.events
 
 -- a test behind a wider one
 tested_narrow : (test : ℕ → Bool) → Narrow test → (at : ℕ) (o : Out ℕ) → tested 3 test at o ≡ tested 3 test at (tested 3 is_value at o)
@@ -61,14 +58,14 @@ module _ (test : ℕ → Bool) (held s : List ℕ) (at : ℕ) (N : Narrow test) 
   unfolding equation_truth label
   equation-refused n p e = rw (number_test (stop n p) e)
 
-  module _ (v p : ℕ) (e : next v p ≡ number_in is_value s (at + 1)) (t : Bool) (k : t ≡ test v) where
-    pub equation-outside : t ≡ false → stop 3 (at + 1) ≡ equation_truth test held s at
+  module _ (v p : ℕ) (e : next v p ≡ number_in is_value s (at + 1)) where
+    pub equation-outside : test v ≡ false → stop 3 (at + 1) ≡ equation_truth test held s at
     unfolding equation_truth label
-    equation-outside h = rw (number_test (next v p) e, ← k, h)
+    equation-outside h = rw (number_test (next v p) e, h)
 
-    pub equation_read : (q : ℕ) (o : Out Bool) → t ≡ true → q ≡ skipped s p → o ≡ map_out (eqb (value_in held v)) (valued is_value s q) → o ≡ equation_truth test held s at
+    pub equation_read : (q : ℕ) (o : Out Bool) → test v ≡ true → q ≡ skipped s p → o ≡ map_out (eqb (value_in held v)) (valued is_value s q) → o ≡ equation_truth test held s at
     unfolding equation_truth label
-    equation_read q o h l g = g ∙ rw (number_test (next v p) e, ← k, h, l)
+    equation_read q o h l g = g ∙ rw (number_test (next v p) e, h, l)
 
 -- ---- an equation
 
@@ -86,16 +83,45 @@ by_truth truth test make held s at h = go (label test s at)
     go (next n p) = value n (valued is_value s p)
 
 module _ (finals kinds values s : List ℕ) (at : ℕ) where
-  pub equation_memory : (o : Out Bool) → is letter_m s at ≡ true → o ≡ equation_truth (is_address finals) finals s at
-      → o ≡ map_out (truth_f (value_in finals) (value_in values)) (equation_at (held_ranges finals kinds) s at)
-  unfolding equation_at truth_f
-  equation_memory o h k = k ∙ rw h (by_truth (truth_f (value_in finals) (value_in values)) (is_address finals) memory_is finals s at (λ n v. refl))
+  abbrev truth_at : Out Bool
+  truth_at = map_out (truth_f (value_in finals) (value_in values)) (equation_at (held_ranges finals kinds) s at)
 
-  pub equation-load : (o : Out Bool) → is letter_m s at ≡ false → is letter_e s at ≡ true → o ≡ equation_truth (is_load kinds) values s at
-      → o ≡ map_out (truth_f (value_in finals) (value_in values)) (equation_at (held_ranges finals kinds) s at)
-  unfolding equation_at truth_f
-  equation-load o n h k = k ∙ rw (n, h) (by_truth (truth_f (value_in finals) (value_in values)) (is_load kinds) load_is values s at (λ n v. refl))
+  pub equation-none : (n p : ℕ) → is letter_m s at ≡ false → stop n p ≡ sign letter_e s at → stop n p ≡ truth_at
+  unfolding equation_at sign
+  equation-none n p m h = rw m (go (is letter_e s at) h)
+    where
+      go : (t : Bool) → stop n p ≡ cond t (next (tt {0}) (at + 1)) (stop 21 at)
+          → stop n p ≡ map_out (truth_f (value_in finals) (value_in values)) (choose t (equation_by (is_load kinds) is_value load_is) (λ s at. stop 21 at) s at)
+      go true k = cc
+      go false k = cc
 
-  pub equation-none : is letter_m s at ≡ false → is letter_e s at ≡ false → stop 21 at ≡ map_out (truth_f (value_in finals) (value_in values)) (equation_at (held_ranges finals kinds) s at)
-  unfolding equation_at
-  equation-none n m = rw (n, m)
+  pub letter-read : (p : ℕ) → next tt p ≡ sign letter_e s at → is letter_e s at ≡ true
+  unfolding sign
+  letter-read p h = go (is letter_e s at) h
+    where
+      go : (t : Bool) → next (tt {0}) p ≡ cond t (next (tt {0}) (at + 1)) (stop 21 at) → t ≡ true
+      go true k = refl
+      go false k = cc
+
+  -- with `m`, or with `e`
+  pub equation_by_letter : (m : Bool) → m ≡ is letter_m s at → (m ≡ false → is letter_e s at ≡ true)
+      → (o : Out Bool) → o ≡ equation_truth (is_named m finals kinds) (values_by m finals values) s at → o ≡ truth_at
+  unfolding equation_at truth_f
+  equation_by_letter true h l o k = k ∙ rw (sym h) (by_truth (truth_f (value_in finals) (value_in values)) (is_address finals) memory_is finals s at (λ n v. refl))
+  equation_by_letter false h l o k = k ∙ rw (sym h, l refl) (by_truth (truth_f (value_in finals) (value_in values)) (is_load kinds) load_is values s at (λ n v. refl))
+
+-- what is found of a number
+pub none_named : (m : Bool) (finals kinds values : List ℕ) (n : ℕ) (o : Option ℕ) → o ≡ held_at m finals kinds values n → o ≡ None → is_named m finals kinds n ≡ false
+none_named m finals kinds values n o e h = go (is_named m finals kinds n) (sym e ∙ h)
+  where
+    go : (t : Bool) → cond t (Some (value_in (values_by m finals values) n)) None ≡ None → t ≡ false
+    go true k = cc
+    go false k = refl
+
+pub one_named : (m : Bool) (finals kinds values : List ℕ) (n : ℕ) (o : Option ℕ) → o ≡ held_at m finals kinds values n → (x : ℕ) → o ≡ Some x
+    → (is_named m finals kinds n ≡ true) × (x ≡ value_in (values_by m finals values) n)
+one_named m finals kinds values n o e x h = go (is_named m finals kinds n) (sym e ∙ h)
+  where
+    go : (t : Bool) → cond t (Some (value_in (values_by m finals values) n)) None ≡ Some x → (t ≡ true) × (x ≡ value_in (values_by m finals values) n)
+    go true k = (refl, cc)
+    go false k = cc

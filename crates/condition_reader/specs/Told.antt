@@ -1,6 +1,6 @@
 -- What the code's answers tell, and what the lists that are lent to it hold.
 -- Assumes nothing.
-use Rattle.std.specs.Prelude.{ℕ, ◌+◌, ◌*◌, ◌-◌, ◌≤◌, ◌≡◌, Bool, true, false, ◌&&◌, List, eqb, leb, ltb, length, get_or, drop, Option, None, Some, Result, Ok, Err}
+use Rattle.std.specs.Prelude.{ℕ, ◌+◌, ◌*◌, ◌-◌, ◌≤◌, ◌≡◌, Bool, true, false, cond, ◌&&◌, List, eqb, leb, ltb, length, get_or, drop, Option, None, Some, Result, Ok, Err}
 use Rattle.number.specs.Reader.{Out, stop, next, Reader, give, onward, tested}
 use Rattle.model.specs.Limits.{most_value}
 use Rattle.model.specs.Case.{load}
@@ -60,6 +60,20 @@ is_value v = leb v most_value
 -- which numbers may stand in a text, by the lists
 abbrev pub held_ranges : (finals kinds : List ℕ) → Ranges
 held_ranges finals kinds = record { address = is_address finals; load = is_load kinds; value = is_value }
+
+-- whether a number is one of an address, or of a load
+abbrev pub is_named : (memory : Bool) → (finals kinds : List ℕ) → ℕ → Bool
+is_named true finals kinds = is_address finals
+is_named false finals kinds = is_load kinds
+
+-- the values of addresses, or of events
+abbrev pub values_by : (memory : Bool) → (finals values : List ℕ) → List ℕ
+values_by true finals values = finals
+values_by false finals values = values
+
+-- the value of the address or load that has the number, if one has
+abbrev pub held_at : (memory : Bool) → (finals kinds values : List ℕ) → ℕ → Option ℕ
+held_at m finals kinds values n = cond (is_named m finals kinds n) (Some (value_in (values_by m finals values) n)) None
 
 -- addresses and events are numbers that a text may hold, and each event has a value
 pub record Small (finals kinds values : List ℕ) : Type 0 where

@@ -5,7 +5,7 @@ ghost use Rattle.std.specs.Prelude.{◌≡◌, ◌+◌, ◌*◌, ◌-◌, ◌≤
 ghost use Rattle.model.specs.Limits.{most_value};
 ghost use Rattle.condition_model.specs.Reader.{is, skipped, sign, is_digit, digits, unfit as unfit_digits, number_in, valued as valued_in, equation_at, read_text};
 ghost use Rattle.condition_model.specs.Truth.{truth_c, truth_f};
-ghost use Rattle.condition_reader.specs.Told.{text_number, told, place_told, sign_told, map_out, value_in, is_address, is_load, is_value, held_ranges, Small, digits_in, sign_at, ReadAs, Phrase.disjunction, Phrase.conjunction, Phrase.single, equation_truth};
+ghost use Rattle.condition_reader.specs.Told.{text_number, told, place_told, sign_told, map_out, value_in, is_value, held_at, held_ranges, Small, digits_in, sign_at, ReadAs, Phrase.disjunction, Phrase.conjunction, Phrase.single};
 
 use case::Case;
 
@@ -57,6 +57,21 @@ struct Known<'a> {
     kinds: &'a [u8],
     values: &'a [u32],
     ghost small: { Small finals.now kinds.now values.now },
+}
+
+impl<'a> Known<'a> {
+    // The final value of an address, or the value of a load, which n has to be the number of.
+    fn held(&self, memory: bool, n: usize) -> Option<u32>
+        ensures { result ≡ held_at memory self.now.finals.now self.now.kinds.now self.now.values.now n }
+    {
+        if memory {
+            self.finals.get(n).copied()
+        } else if self.kinds.get(n) == Some(&Case::LOAD) {
+            Some(self.values[n])
+        } else {
+            None
+        }
+    }
 }
 
 // Whether the byte b stands at a place.
@@ -136,58 +151,20 @@ fn valued(text: &[u8], at: usize, x: u32) -> Result<(bool, usize), TextRefusal>
     Ok((x == v, skip(text, end)))
 }
 
-fn is_address(finals: &[u32], a: usize) -> bool
-    ensures { result ≡ is_address finals.now a }
-{
-    a < finals.len()
-}
-
-// Whether e is the number of a load.
-fn is_load(kinds: &[u8], e: usize) -> bool
-    ensures { result ≡ is_load kinds.now e }
-{
-    e < kinds.len() && kinds[e] == Case::LOAD
-}
-
-// `m`, which was looked at, an address, `=` and a value.
-fn memory(text: &[u8], known: &Known, at: usize) -> Result<(bool, usize), TextRefusal>
-    requires { at < length text.now }
-    ensures { told result ≡ equation_truth (is_address known.now.finals.now) known.now.finals.now text.now at }
-{
-    let start = at + 1;
-    let (v, next) = number(text, start)?;
-    let a = v as usize;
-    if !is_address(known.finals, a) {
-        return Err(TextFault::Range.at(start));
-    }
-    valued(text, skip(text, next), known.finals[a])
-}
-
-// `e`, which was looked at, a load's number, `=` and a value.
-fn load(text: &[u8], known: &Known, at: usize) -> Result<(bool, usize), TextRefusal>
-    requires { at < length text.now }
-    ensures { told result ≡ equation_truth (is_load known.now.kinds.now) known.now.values.now text.now at }
-{
-    let start = at + 1;
-    let (v, next) = number(text, start)?;
-    let e = v as usize;
-    if !is_load(known.kinds, e) {
-        return Err(TextFault::Range.at(start));
-    }
-    valued(text, skip(text, next), known.values[e])
-}
-
-// An equation.
+// `m` and an address, or `e` and a load's number; `=` and a value.
 fn equation(text: &[u8], known: &Known, at: usize) -> Result<(bool, usize), TextRefusal>
     ensures { told result ≡ map_out (truth_f (value_in known.now.finals.now) (value_in known.now.values.now)) (equation_at (held_ranges known.now.finals.now known.now.kinds.now) text.now at) }
 {
-    if stands(text, at, b'm') {
-        return memory(text, known, at);
+    let memory = stands(text, at, b'm');
+    if !memory {
+        expect(text, at, b'e')?;
     }
-    if stands(text, at, b'e') {
-        return load(text, known, at);
-    }
-    Err(TextFault::Grammar.at(at))
+    let start = at + 1;
+    let (n, next) = number(text, start)?;
+    let Some(x) = known.held(memory, n as usize) else {
+        return Err(TextFault::Range.at(start));
+    };
+    valued(text, skip(text, next), x)
 }
 
 // The place behind the sign of the bytes x and y, if x stands at a place.
