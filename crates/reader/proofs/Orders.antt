@@ -7,7 +7,7 @@ use native.Mathlib.Omega.{arith}
 use native.Mathlib.Nat.{mul-le-mul}
 use lib.Bits.{bit_or}
 use lib.ListN.{length, get_or, set, replicate, length-set, length-replicate}
-use mir.Syntax.{w64, w32}
+use mir.Syntax.{w64}
 use mir.Val.{Fits}
 use Rattle.number.specs.Number.{read_number}
 use Rattle.number.specs.Reader.{stop, next, onward, up_to, turns}
@@ -54,27 +54,6 @@ pub pair_in : (s : List ℕ) (at k least : ℕ) (q : code.Pair) (p : ℕ) → ne
 pair_in s at k least q p e z =
     let g = gone (forward_rising_pair {s = s} k least) at (model_pair q) p (sym e) in
     record { first = omega (arith, g.holds.0.0); second = omega (arith, g.holds.0.1) }
-
--- squares
-square_small : (k : ℕ) → k ≤ most_events → k * k ≤ most_events * most_events
-square_small k h = mul-le-mul h h
-
-pub square_fits_64 : (k : ℕ) → k ≤ most_events → Fits w64 (k * k)
-square_fits_64 k h = record { fits = omega (arith, square_small k h) }
-
-pub square_fits_32 : (k : ℕ) → k ≤ most_events → Fits w32 (k * k)
-square_fits_32 k h = record { fits = omega (arith, square_small k h) }
-
--- behind a run
-module _ (s : List ℕ) (k a at low₀ row₀ left p low row left' : ℕ) (t : Ran s k a at low₀ row₀ (left - 1) p low row left') where
-  pub row_fits' : Fits w64 (a * k)
-  row_fits' = record { fits = omega (arith, rank-small k a 0 t.within.1 (record { first = t.within.0; second = omega (arith, t.within.0) })) }
-
-  pub least_fits : Fits w64 (a * k + low)
-  least_fits = record { fits = omega (arith, t.within.1, t.inside, rank-small k a 0 t.within.1 (record { first = t.within.0; second = omega (arith, t.within.0) })) }
-
-  pub run-less : 0 < left → left' < left
-  run-less l = omega (arith, t.fewer)
 
 -- of an order, left pairs are left to read, of rank least or above
 pub record Pairing (s : List ℕ) (at k count : ℕ) (array₀ array : List ℕ) (place least left : ℕ) : Type 0 where

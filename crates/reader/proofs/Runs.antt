@@ -1,11 +1,10 @@
 -- A run of pairs of one row: numbers of one byte each.
 -- Assumes nothing.
 use Prim.Native.Nat.{ℕ, ◌+◌, ◌-◌, ◌*◌, ◌%◌, ◌^◌, ◌≤◌, ◌<◌}
-use mathlib.Core.Path.{◌≡◌, refl, ap, sym, ◌∙◌}
+use mathlib.Core.Path.{◌≡◌, ap, sym, ◌∙◌}
 use mathlib.Core.List.{List}
 use mathlib.Core.Bool.{Bool, true, ◌&&◌}
 use native.Mathlib.Omega.{arith}
-use native.Mathlib.Nat.{mul-le-mul}
 use lib.Bits.{bit_or}
 use lib.ListN.{length, get_or}
 use lib.Seq.{set-set, get_or-set_same}
@@ -45,9 +44,6 @@ row_with k a low row b rows i =
     rw (get_or-set_same rows a row 0 i, set-set, z)
 
 module _ (s : List ℕ) (k a at low₀ row₀ left₀ : ℕ) where
-  pub ran-none : (a < k) × (k ≤ most_events) → low₀ ≤ k → Ran s k a at low₀ row₀ left₀ at low₀ row₀ left₀
-  ran-none m h = record { within = m; inside = h; fewer = omega arith; same = λ rows i. refl }
-
   module _ (p low row left b : ℕ) (h : Ran s k a at low₀ row₀ left₀ p low row left) where
     pub ran-next : 0 < left → p + 1 < length s → get_or s p 0 ≡ a → get_or s (p + 1) 0 ≡ b → low ≤ b → b < k
         → (row' : ℕ) → row' ≡ bit_or row (2 ^ b) → Ran s k a at low₀ row₀ left₀ (p + 2) (b + 1) row' (left - 1)
@@ -97,20 +93,7 @@ pub record Rising (s : List ℕ) (a at low₀ row₀ most p low row left : ℕ) 
   pub room : left * 2 ≤ length s - p
   pub size : length s < 2 ^ 64
 
-pub rising_begun : (s : List ℕ) (a at low row most : ℕ) → most * 2 ≤ length s - at → length s < 2 ^ 64 → Rising s a at low row most at low row most
-rising_begun s a at low row most r z = record {
-  rose = record { fewer = omega arith; up = omega arith; place = omega arith; ran = λ k more w h. ran-none s k a at low row (most + more) w h };
-  room = r;
-  size = z;
-}
-
 module _ (s : List ℕ) (a at low₀ row₀ most p low row left : ℕ) (h : Rising s a at low₀ row₀ most p low row left) where
-  pub rising_room : left * 2 ≤ length s - p
-  rising_room = h.room
-
-  pub pairs_taken : Rose s a at low₀ row₀ most p low row left
-  pairs_taken = h.rose
-
   module _ (t : Bool) (et : t ≡ follows_at s p a low left) (yes : t ≡ true) where
     here : Next s p a low left
     here = next_of s p a low left (sym et ∙ yes)
@@ -158,44 +141,12 @@ pub record Running (s : List ℕ) (k a at low₀ row₀ left₀ last p low row l
   pub back : last ≤ left
   pub small : left < 2 ^ 64
 
-pub run-begun : (s : List ℕ) (k a at low₀ row₀ left₀ last : ℕ)
-    → low₀ ≤ k → ((left₀ - last) * 2 ≤ length s - at) × (last ≤ left₀) → (a < k) × (k ≤ most_events) → left₀ < 2 ^ 64
-    → Running s k a at low₀ row₀ left₀ last at low₀ row₀ left₀ 0
-run-begun s k a at low₀ row₀ left₀ last h r m z = record {
-  within = m;
-  ran = λ _. ran-none s k a at low₀ row₀ left₀ m h;
-  room = r.0;
-  back = r.1;
-  small = z;
-}
-
 module _ (s : List ℕ) (k a at low₀ row₀ left₀ last p low row left missed : ℕ) (h : Running s k a at low₀ row₀ left₀ last p low row left missed) where
-  pub run_ends : low ≤ k → Ran s k a at low₀ row₀ left₀ p low row left
-  run_ends l = h.ran l
-
-  pub run_back : last ≤ left
-  run_back = h.back
-
   module _ (t : Bool) (et : t ≡ (eqb missed 0 && leb at_once (left - last))) (yes : t ≡ true) where
-    none_missed : missed ≡ 0
-    none_missed = eqb-true missed 0 (and_l (eqb missed 0) _ (sym et ∙ yes))
-
     enough : at_once ≤ left - last
     enough = leb-true at_once (left - last) (and_r (eqb missed 0) _ (sym et ∙ yes))
 
-    pub turn_room : at_once * 2 ≤ length s - p
-    turn_room = omega (arith, enough, h.room)
-
-    pub turn_there : at_once ≤ left
-    turn_there = omega (arith, enough)
-
     module _ (p' low' row' m : ℕ) (r : Rose s a p low row at_once p' low' row' m) where
-      pub left_fits : Fits w64 (left - at_once + m)
-      left_fits = record { fits = omega (arith, enough, r.fewer, h.small) }
-
-      pub turn_less : left - at_once + m + (left - at_once + m) - m < left + left - missed
-      turn_less = omega (arith, enough, none_missed, r.fewer)
-
       pub run_turn : Running s k a at low₀ row₀ left₀ last p' low' row' (left - at_once + m) m
       run_turn = record {
         within = h.within;
@@ -215,9 +166,3 @@ pub pair_at_once : (s : List ℕ) (at k least m a b : ℕ) → m ≡ 0 → (1 - 
 pair_at_once s at k least m a b z room h ea eb la lb l =
     let q : at + 1 + 1 ≡ at + 2 = omega arith in
     sym (two_bytes s at k least a b h (omega arith) (sym ea) (sym eb) la lb l ∙ ap (λ (p : ℕ). next (record { a = a; b = b }) p) q)
-
-pub rank_row : (k a : ℕ) → k ≤ most_events → a < k → Fits w64 (a * k)
-rank_row k a h l = let w : a ≤ most_events = omega arith in let p : a * k ≤ most_events * most_events = mul-le-mul w h in record { fits = omega arith }
-
-pub rank_both : (k a b : ℕ) → k ≤ most_events → a < k → b < k → Fits w64 (a * k + b)
-rank_both k a b h l m = let w : a ≤ most_events = omega arith in let p : a * k ≤ most_events * most_events = mul-le-mul w h in record { fits = omega arith }

@@ -79,10 +79,6 @@ pub orders-begun : (s : List ℕ) (at n k : ℕ) (array₀ : List ℕ) → array
 unfolding times
 orders-begun s at n k array₀ z = table-begun most_threads (λ _. order k) s at n array₀ z
 
--- the first of them
-pub first_there : (array₀ : List ℕ) → array₀ ≡ replicate (most_threads * most_events) 0 → most_events ≤ length array₀
-first_there array₀ z = omega (arith, ap length z, length-replicate {A = ℕ} (most_threads * most_events) 0)
-
 module _ (s : List ℕ) (at n k : ℕ) (array₀ : List ℕ) (z : array₀ ≡ replicate (most_threads * most_events) 0) (b : (1 ≤ n) × (n ≤ most_threads)) where
   pub first-stop : (x q : ℕ) → order k s at ≡ stop x q → times n (order k) s at ≡ stop x q
   first-stop x q g = table-stop _ _ _ _ _ _ _ _ 0 (orders-begun s at n k array₀ z) b.0 x q g

@@ -169,18 +169,14 @@ unfolding read
 from_start s r h = rw (counted_start (case s 0)) at h
 
 -- a reading's name is within the record, and where the model has it
-module _ (s : List ℕ) where
-  pub no_name_part : (x p : ℕ) → read s ≡ stop x p → ◌≡◌ {A = NamePart} (record { at = 0; length = 0 }) (part_of (name_part (read s)))
-  no_name_part x p e = rw e
+module _ (s : List ℕ) (r : Reading) (h : Read (read s) r) where
+  pub name_in_record : r.case.namelength ≤ r.length
+  unfolding read held
+  name_in_record = rw h.holds (gone forward_case 0 h.c r.length h.is_read).holds.long
 
-  module _ (r : Reading) (h : Read (read s) r) where
-    pub name_in_record : r.case.namelength ≤ r.length
-    unfolding read held
-    name_in_record = rw h.holds (gone forward_case 0 h.c r.length h.is_read).holds.long
-
-    pub name-part_is : ◌≡◌ {A = NamePart} (record { at = r.length - r.case.namelength; length = r.case.namelength }) (part_of (name_part (read s)))
-    unfolding held
-    name-part_is = rw (h.is_read, h.holds)
+  pub name-part_is : ◌≡◌ {A = NamePart} (record { at = r.length - r.case.namelength; length = r.case.namelength }) (part_of (name_part (read s)))
+  unfolding held
+  name-part_is = rw (h.is_read, h.holds)
 
 -- the part's bounds
 part_in_of : (s : List ℕ) (o : Out Case) → Outcome (λ c p. AtEnd s c.name p) 0 o → (name_part o).at + (name_part o).length ≤ length s

@@ -26,7 +26,7 @@ pub struct Reading {
     pub length: usize,
 }
 
-// Where a record's name stands in it, and the name's length.
+// Where a record's name stands in it, and the name's length. Zeros and no None under a refusal: C gets these two numbers.
 #[derive(Clone, Copy)]
 pub struct NamePart {
     pub at: usize,
@@ -88,7 +88,7 @@ fn read_event(bytes: &[u8], at: usize, head: Head) -> Result<(Event, usize), Ref
     Ok((event, end))
 }
 
-// Reads count events into four arrays that hold zeros; gives where they end.
+// Reads count events into four arrays that hold zeros; gives where they end. They are a Case's, whose fields C has as arrays.
 fn read_events(
     bytes: &[u8],
     at: usize,
@@ -228,7 +228,7 @@ fn follows(bytes: &[u8], a: usize, run: Run) -> bool
 }
 
 // Takes the pairs of a run of row a, of two bytes each, as long as they rise. Since they do, the caller need only ask whether the last is below k.
-// The loop counts by itself: how many pairs are left is part of what it gives.
+// The loop counts by hand: where it ends, what is left of the run is the answer.
 fn take_pairs(bytes: &[u8], a: usize, start: Run) -> Run
     requires { start.left * 2 ≤ length bytes.now - start.place }
     ensures { Rose bytes.now a start.place start.low start.row start.left result.place result.low result.row result.left }
@@ -298,6 +298,7 @@ fn read_next(bytes: &[u8], at: usize, k: usize, least: usize) -> Result<(Pair, u
 }
 
 // Reads count pairs of an order of k events into rows that hold zeros: the first of each run by read_next, which refuses, then the rest of the run.
+// A while: a turn takes as many pairs as the run has.
 fn read_pairs(
     bytes: &[u8],
     at: usize,
@@ -340,7 +341,7 @@ fn read_order(bytes: &[u8], at: usize, k: usize, rows: &mut [u64]) -> Result<usi
 }
 
 // Reads the orders of so many threads, one at least, into rows that hold zeros. The first is read by itself: as read_order is called from two places,
-// it is compiled as a function of its own, whose loop then has the registers.
+// it is compiled as a function of its own, whose loop then has the registers. By parts and not by chunks_mut, behind which a proof knows no element.
 fn read_orders(
     bytes: &[u8],
     at: usize,
@@ -424,7 +425,7 @@ fn read_write_order(
     Ok(place)
 }
 
-// Reads the write orders of so many addresses into an array that holds zeros.
+// Reads the write orders of so many addresses into an array that holds zeros: by parts, as read_orders does.
 fn read_writes(
     bytes: &[u8],
     at: usize,

@@ -1,15 +1,7 @@
 use Rattle.reader.specs.Answers.{Stores}
 use Rattle.reader.proofs.Filling.{exit}
-use Rattle.reader.proofs.Orders.{square_fits_64, square_fits_32, no_count, count_in, whole-order}
+use Rattle.reader.proofs.Orders.{no_count, count_in, whole-order}
 use Rattle.reader.proofs.read_order.Goals as goal
-
-pub overflow_mul-k : goal.overflow_mul-k
-overflow_mul-k c =
-    search square_fits_64
-
-pub overflow_cast-k : goal.overflow_cast-k
-overflow_cast-k c =
-    search square_fits_32
 
 pub returns-in_err-count : goal.returns-in_err-count
 returns-in_err-count c =
