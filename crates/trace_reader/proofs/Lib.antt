@@ -3,4 +3,3 @@ pub mod OneStep
 pub mod AllSteps
 pub mod Whole
 pub mod HeldBack
-pub mod Found

@@ -95,6 +95,14 @@ pub struct Step {
     pub value: u32,
 }
 
+// How many threads and addresses a trace has.
+#[derive(Clone, Copy)]
+struct Head {
+    threads: usize,
+    addresses: usize,
+    ghost in_range: { Counts threads addresses },
+}
+
 impl Trace {
     pub const MOST_STEPS: usize = 128;
 
@@ -243,22 +251,20 @@ fn read_fields(
 fn read_step(
     bytes: &[u8],
     at: usize,
-    threads: usize,
-    addresses: usize,
+    head: Head,
     writes: usize,
     barriers: usize,
 ) -> Result<(Step, usize), Refusal>
-    requires counts { Counts threads addresses }
-    requires writes_le_most_steps { (writes ≤ most_steps) × (barriers ≤ most_steps) }
-    ensures same { outcome_by model_step result ≡ step threads addresses writes barriers bytes.now at }
+    requires { (writes ≤ most_steps) × (barriers ≤ most_steps) }
+    ensures same { outcome_by model_step result ≡ step head.threads head.addresses writes barriers bytes.now at }
     ensures exact { IfOk result (λ r. Exact r.0) }
 {
     let (kind, after_kind) = read_kind(bytes, at)?;
     if !kind.has_room(writes, barriers) {
         return Err(Fault::Range.at(at));
     }
-    let firsts = kind.first_count(threads, writes, barriers);
-    let seconds = kind.second_count(threads, addresses, writes);
+    let firsts = kind.first_count(head.threads, writes, barriers);
+    let seconds = kind.second_count(head.threads, head.addresses, writes);
     read_fields(bytes, after_kind, kind, firsts, seconds)
 }
 
@@ -273,23 +279,22 @@ fn counted(kind: Kind, which: Kind) -> usize
 fn read_steps(
     bytes: &[u8],
     at: usize,
-    threads: usize,
-    addresses: usize,
+    head: Head,
     count: usize,
     kinds: &mut [u8; Trace::MOST_STEPS],
     firsts: &mut [u8; Trace::MOST_STEPS],
     seconds: &mut [u8; Trace::MOST_STEPS],
     values: &mut [u32; Trace::MOST_STEPS],
 ) -> Result<usize, Refusal>
-    requires counts { Counts threads addresses × (count ≤ most_steps) }
+    requires count_le_most_steps { count ≤ most_steps }
     requires steps { Steps kinds.old firsts.old seconds.old values.old [] }
-    ensures { Stores (Steps kinds.new firsts.new seconds.new values.new) (turns count (next_step threads addresses) [] bytes.now at) result }
+    ensures { Stores (Steps kinds.new firsts.new seconds.new values.new) (turns count (next_step head.threads head.addresses) [] bytes.now at) result }
 {
     let mut place = at;
     let mut writes: usize = 0;
     let mut barriers: usize = 0;
     for i in 0..count {
-        let (step, next) = read_step(bytes, place, threads, addresses, writes, barriers)?;
+        let (step, next) = read_step(bytes, place, head, writes, barriers)?;
         kinds[i] = u8::from(step.kind);
         firsts[i] = step.first;
         seconds[i] = step.second;
@@ -305,19 +310,18 @@ fn read_steps(
 fn read_listing(
     bytes: &[u8],
     at: usize,
-    threads: usize,
-    addresses: usize,
+    head: Head,
     initial: &mut [u32; Case::MOST_ADDRESSES],
     kinds: &mut [u8; Trace::MOST_STEPS],
     firsts: &mut [u8; Trace::MOST_STEPS],
     seconds: &mut [u8; Trace::MOST_STEPS],
     values: &mut [u32; Trace::MOST_STEPS],
 ) -> Result<(usize, usize), Refusal>
-    requires counts { Counts threads addresses × (initial.old ≡ replicate most_addresses 0) }
+    requires initial_value { initial.old ≡ replicate most_addresses 0 }
     requires steps { Steps kinds.old firsts.old seconds.old values.old [] }
-    ensures { StoresCounted (λ t. length t.steps) (Listing threads addresses initial.new kinds.new firsts.new seconds.new values.new) (listing threads addresses bytes.now at) result }
+    ensures { StoresCounted (λ t. length t.steps) (Listing head.threads head.addresses initial.new kinds.new firsts.new seconds.new values.new) (listing head.threads head.addresses bytes.now at) result }
 {
-    let after_initials = reader::read_initials(bytes, at, addresses, initial)?;
+    let after_initials = reader::read_initials(bytes, at, head.addresses, initial)?;
     let (count, after_count) = number::read_number(
         bytes,
         after_initials,
@@ -327,8 +331,7 @@ fn read_listing(
     let end = read_steps(
         bytes,
         after_count,
-        threads,
-        addresses,
+        head,
         count,
         kinds,
         firsts,
@@ -339,14 +342,8 @@ fn read_listing(
 }
 
 // Reads what follows the counts of threads and addresses; gives the trace and where it ends.
-fn read_body(
-    bytes: &[u8],
-    at: usize,
-    threads: usize,
-    addresses: usize,
-) -> Result<(Trace, usize), Refusal>
-    requires { Counts threads addresses }
-    ensures { TraceRead (listing threads addresses bytes.now at) result }
+fn read_body(bytes: &[u8], at: usize, head: Head) -> Result<(Trace, usize), Refusal>
+    ensures { TraceRead (listing head.threads head.addresses bytes.now at) result }
 {
     let mut initial = [0u32; Case::MOST_ADDRESSES];
     let mut kind = [0u8; Trace::MOST_STEPS];
@@ -356,8 +353,7 @@ fn read_body(
     let (steps, end) = read_listing(
         bytes,
         at,
-        threads,
-        addresses,
+        head,
         &mut initial,
         &mut kind,
         &mut first,
@@ -365,8 +361,8 @@ fn read_body(
         &mut value,
     )?;
     let trace = Trace {
-        threads,
-        addresses,
+        threads: head.threads,
+        addresses: head.addresses,
         initial,
         steps,
         kind,
@@ -388,7 +384,11 @@ pub fn read(bytes: &[u8]) -> Result<(Trace, usize), Refusal>
         1,
         Case::MOST_ADDRESSES as u32,
     )?;
-    read_body(bytes, after_addresses, threads as usize, addresses as usize)
+    let head = Head {
+        threads: threads as usize,
+        addresses: addresses as usize,
+    };
+    read_body(bytes, after_addresses, head)
 }
 
 // The same, as the struct that C gets.

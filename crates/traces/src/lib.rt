@@ -7,13 +7,13 @@ ghost use Rattle.storage_model.specs.Subsystem.{refused, run as run_of};
 ghost use Rattle.storage_model.specs.Answers.{ran_answer, judge_trace_out, judge_trace};
 ghost use Rattle.storage.specs.Held.{held};
 ghost use Rattle.trace_reader.specs.Held.{step_of};
-ghost use Rattle.trace_reader.specs.Kinds.{number_of};
+ghost use Rattle.trace_reader.specs.Fields.{model_step};
 ghost use Rattle.transitions.specs.Steps.{Took, number_of as condition_number};
 ghost use Rattle.traces.specs.Shown.{trace_of, GoodTrace, Fitting, start_of, trace_shown};
 
 use number::Refusal;
 use storage::Storage;
-use trace_reader::{Kind, Trace};
+use trace_reader::{Kind, Step, Trace};
 use transitions::{Condition, State};
 
 // A step is not enabled.
@@ -72,32 +72,37 @@ fn start(trace: &Trace) -> Storage
     out
 }
 
-// The kind of step i.
-fn kind_at(trace: &Trace, i: usize) -> Kind
+// Step i of the trace.
+fn step_at(trace: &Trace, i: usize) -> Step
     requires good { GoodTrace trace.now }
     requires i_lt_steps { i < trace.now.steps }
-    ensures { number_of result ≡ get_or trace.now.kind i 0 }
+    ensures { model_step result ≡ step_of (get_or trace.now.kind i 0) (get_or trace.now.first i 0) (get_or trace.now.second i 0) (get_or trace.now.value i 0) }
 {
     match Kind::try_from(trace.kind[i]) {
-        Ok(kind) => kind,
+        Ok(kind) => Step {
+            kind,
+            first: trace.first[i],
+            second: trace.second[i],
+            value: trace.value[i],
+        },
         Err(_) => unreachable!(),
     }
 }
 
-// Takes a step of a kind with these fields.
-fn step(state: &State, kind: Kind, first: u8, second: u8, value: u32) -> Result<Storage, Condition>
-    requires { Fitting state.now.storage.now (step_of (number_of kind) first second value) }
-    ensures { Took state.now.storage.now (step_of (number_of kind) first second value) result }
+// Takes a step.
+fn step(state: &State, step: Step) -> Result<Storage, Condition>
+    requires { Fitting state.now.storage.now (model_step step) }
+    ensures { Took state.now.storage.now (model_step step) result }
 {
-    let x = usize::from(first);
-    let y = usize::from(second);
-    match kind {
-        Kind::AcceptWrite => Ok(state.accept_write(x, y, value)),
+    let x = usize::from(step.first);
+    let y = usize::from(step.second);
+    match step.kind {
+        Kind::AcceptWrite => Ok(state.accept_write(x, y, step.value)),
         Kind::AcceptBarrier => Ok(state.accept_barrier(x, y)),
         Kind::PropagateWrite => state.propagate_write(x, y),
         Kind::PropagateBarrier => state.propagate_barrier(x, y),
         Kind::Commit => state.commit(x, y),
-        Kind::Respond => state.respond(x, y, value),
+        Kind::Respond => state.respond(x, y, step.value),
         Kind::Acknowledge => state.acknowledge(x),
     }
 }
@@ -109,15 +114,8 @@ fn run(trace: &Trace, length: usize) -> TraceAnswer
 {
     let mut end = start(trace);
     for i in 0..trace.steps {
-        let kind = kind_at(trace, i);
         let state = State { storage: &end };
-        let taken = step(
-            &state,
-            kind,
-            trace.first[i],
-            trace.second[i],
-            trace.value[i],
-        );
+        let taken = step(&state, step_at(trace, i));
         match taken {
             Ok(next) => end = next,
             Err(condition) => return not_enabled(i, condition),

@@ -13,9 +13,9 @@ returns-in_err-addresses c =
     let p = err_from_is_err_and c.from_residual-in_err-addresses.result c.from_residual-in_err-addresses.ensures.1 in
     rw (p.1, p.2) (no_addresses _ _ _ c.in_ok-threads.ensures _ _ c.in_err-addresses.ensures)
 
-pub read_body-requires : goal.read_body-requires
-read_body-requires c =
-    counts_read _ _ _ c.in_ok-threads.ensures _ _ c.in_ok-addresses.ensures
+pub invariant_of-head : goal.invariant_of-head
+invariant_of-head c =
+    record { in_range = counts_read _ _ _ c.in_ok-threads.ensures _ _ c.in_ok-addresses.ensures }
 
 pub returns : goal.returns
 returns c =

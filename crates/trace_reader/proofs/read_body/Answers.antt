@@ -1,12 +1,7 @@
 -- `trace_reader::read_body` meets its contract. Assumes nothing.
-use mathlib.Core.Path.{refl}
 use Rattle.std.proofs.lemmas.Result.{err_from_is_err_and}
 use Rattle.trace_reader.proofs.Whole.{no_steps, whole_struct}
 use Rattle.trace_reader.proofs.read_body.Goals as goal
-
-pub read_listing-requires-clause-counts : goal.read_listing-requires-clause-counts
-read_listing-requires-clause-counts c =
-    (c.requires, refl)
 
 pub read_listing-requires-clause-steps : goal.read_listing-requires-clause-steps
 read_listing-requires-clause-steps c =

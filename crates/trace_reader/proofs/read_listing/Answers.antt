@@ -14,9 +14,9 @@ returns-in_err-count c =
     let p = err_from_is_err_and c.from_residual-in_err-count.result c.from_residual-in_err-count.ensures.1 in
     rw (p.1, p.2) (no_count _ _ _ _ _ _ c.in_ok-after_initials.ensures _ _ c.in_err-count.ensures)
 
-pub read_steps-requires-clause-counts : goal.read_steps-requires-clause-counts
-read_steps-requires-clause-counts c =
-    (c.requires.counts.0, up_to_most _ _ _ _ _ c.in_ok-count.ensures)
+pub read_steps-requires-clause-count_le_most_steps : goal.read_steps-requires-clause-count_le_most_steps
+read_steps-requires-clause-count_le_most_steps c =
+    up_to_most _ _ _ _ _ c.in_ok-count.ensures
 
 pub returns-in_err-end : goal.returns-in_err-end
 returns-in_err-end c =

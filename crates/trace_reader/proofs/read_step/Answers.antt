@@ -15,11 +15,12 @@ returns-then-not-has_room-clause-same c =
 
 pub read_fields-requires : goal.read_fields-requires
 read_fields-requires c =
-    let w = c.requires.writes_le_most_steps in
-    (rw c.first_count-firsts.ensures (first_few _ _ _ _ _ (omega arith) (omega (arith, w)) (omega (arith, w))),
-    rw c.second_count-seconds.ensures (second_few _ _ _ _ _ (omega arith) (omega arith) (omega (arith, w)) (omega arith)))
+    let w = c.requires in (
+      rw c.first_count-firsts.ensures (first_few _ _ _ _ _ (omega arith) (omega (arith, w)) (omega (arith, w))),
+      rw c.second_count-seconds.ensures (second_few _ _ _ _ _ (omega arith) (omega arith) (omega (arith, w)) (omega arith)),
+    )
 
 pub returns-clause-same : goal.returns-clause-same
 returns-clause-same c =
-    with_room _ _ _ _ _ _ _ _ c.in_ok-kind.ensures c.has_room.ensures c.if-not-has_room.false c.requires.counts
+    with_room _ _ _ _ _ _ _ _ c.in_ok-kind.ensures c.has_room.ensures c.if-not-has_room.false c.args.head.in_range
     c.first_count-firsts.ensures c.second_count-seconds.ensures c.read_fields.ensures.same

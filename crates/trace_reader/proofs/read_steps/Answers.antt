@@ -8,9 +8,9 @@ pub loop-i-init : goal.loop-i-init
 loop-i-init c =
     search begun
 
-pub read_step-requires-clause-writes_le_most_steps : goal.read_step-requires-clause-writes_le_most_steps
-read_step-requires-clause-writes_le_most_steps c =
-    (writes_most _ _ _ _ _ _ _ _ _ _ _ _ _ c.loop-i.invariant c.requires.counts.1, barriers_most _ _ _ _ _ _ _ _ _ _ _ _ _ c.loop-i.invariant c.requires.counts.1)
+pub read_step-requires : goal.read_step-requires
+read_step-requires c =
+    (writes_most _ _ _ _ _ _ _ _ _ _ _ _ _ c.loop-i.invariant c.requires.count_le_most_steps, barriers_most _ _ _ _ _ _ _ _ _ _ _ _ _ c.loop-i.invariant c.requires.count_le_most_steps)
 
 pub returns-in_err-step : goal.returns-in_err-step
 returns-in_err-step c =
@@ -19,15 +19,15 @@ returns-in_err-step c =
 
 pub overflow_add-writes : goal.overflow_add-writes
 overflow_add-writes c =
-    one-fits _ _ _ _ _ _ _ _ _ _ _ _ _ c.loop-i.invariant c.requires.counts.1 _ c.counted-writes.ensures.1
+    one-fits _ _ _ _ _ _ _ _ _ _ _ _ _ c.loop-i.invariant c.requires.count_le_most_steps _ c.counted-writes.ensures.1
 
 pub overflow_add-barriers : goal.overflow_add-barriers
 overflow_add-barriers c =
-    other_fits _ _ _ _ _ _ _ _ _ _ _ _ _ c.loop-i.invariant c.requires.counts.1 _ c.counted-barriers.ensures.1
+    other_fits _ _ _ _ _ _ _ _ _ _ _ _ _ c.loop-i.invariant c.requires.count_le_most_steps _ c.counted-barriers.ensures.1
 
 pub loop-i-preserved : goal.loop-i-preserved
 loop-i-preserved c =
-    one_more _ _ _ _ _ _ _ _ _ _ _ _ _ c.loop-i.invariant (omega arith) c.requires.counts.1 _ _ c.in_ok-step.ensures.same c.in_ok-step.ensures.exact
+    one_more _ _ _ _ _ _ _ _ _ _ _ _ _ c.loop-i.invariant (omega arith) c.requires.count_le_most_steps _ _ c.in_ok-step.ensures.same c.in_ok-step.ensures.exact
     c.from.ensures c.counted-writes.ensures c.counted-barriers.ensures
 
 pub returns : goal.returns

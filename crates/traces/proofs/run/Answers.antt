@@ -8,15 +8,15 @@ loop-i-init c =
 
 pub step-taken-requires : goal.step-taken-requires
 step-taken-requires c =
-    rw c.kind_at-kind.ensures (turn_fits _ _ _ c.loop-i.invariant c.loop-i-test.true)
+    rw c.step_at.ensures (turn_fits _ _ _ c.loop-i.invariant c.loop-i-test.true)
 
 pub returns-in-Err : goal.returns-in-Err
 returns-in-Err c =
-    turn_refused _ _ _ c.loop-i.invariant c.loop-i-test.true _ (rw c.kind_at-kind.ensures at c.in-Err.ensures) _ _ c.not_enabled.ensures
+    turn_refused _ _ _ c.loop-i.invariant c.loop-i-test.true _ (rw c.step_at.ensures at c.in-Err.ensures) _ _ c.not_enabled.ensures
 
 pub loop-i-preserved : goal.loop-i-preserved
 loop-i-preserved c =
-    turn_more _ _ _ c.loop-i.invariant c.loop-i-test.true _ (rw c.kind_at-kind.ensures at c.in-Ok.ensures)
+    turn_more _ _ _ c.loop-i.invariant c.loop-i-test.true _ (rw c.step_at.ensures at c.in-Ok.ensures)
 
 pub returns : goal.returns
 returns c =

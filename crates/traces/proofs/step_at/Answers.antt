@@ -1,7 +1,7 @@
--- `traces::kind_at` meets its contract. Assumes nothing.
+-- `traces::step_at` meets its contract. Assumes nothing.
 use native.Mathlib.Omega.{arith}
 use Rattle.traces.proofs.Turns.{steps_few, kind_within}
-use Rattle.traces.proofs.kind_at.Goals as goal
+use Rattle.traces.proofs.step_at.Goals as goal
 
 pub bounds-trace-i : goal.bounds-trace-i
 bounds-trace-i c =
