@@ -19,6 +19,8 @@ use front::Head;
 use listing::Listed;
 use number::{Fault, Refusal};
 
+// Numbers that were read go from u32 to usize by `as`: usize has no From<u32>.
+
 // A record's case and its length.
 #[derive(Clone, Copy)]
 pub struct Reading {
@@ -33,6 +35,7 @@ pub struct NamePart {
     pub length: usize,
 }
 
+// An event as a Case holds it. Its kind is a number and not an enum: the arrays of C hold any byte.
 #[derive(Clone, Copy)]
 pub struct Event {
     pub kind: u8,
@@ -191,7 +194,8 @@ fn read_dependencies(
 // How many pairs of two bytes are taken at a time.
 const AT_ONCE: usize = 8;
 
-// Reads a pair of event numbers below k, of rank least or above.
+// Reads a pair of event numbers below k, of rank least or above. Here k is a number with its bound in a clause and no type of its own,
+// since what reads orders compares with it and multiplies by it.
 #[tactic(auto, unfolding(model::specs::Record::rising_pair, model::specs::Record::pair, number::specs::Reader::unless, number::specs::Reader::up_to, number::specs::Reader::below))]
 fn read_pair(bytes: &[u8], at: usize, k: usize, least: usize) -> Result<(Pair, usize), Refusal>
     requires { (0 < k) × (k ≤ most_events) }
