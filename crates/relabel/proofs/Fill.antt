@@ -1,18 +1,17 @@
 -- A loop that stores f at each place of a list, from the front: the one law of all loops that fill an array.
 -- Assumes nothing.
-use Prim.Native.Nat.{ℕ, zero, suc, ◌+◌, ◌-◌, ◌≤◌, ◌<◌}
+use Prim.Native.Nat.{ℕ, zero, suc, ◌+◌, ◌≤◌, ◌<◌}
 use mathlib.Core.Path.{◌≡◌, refl, sym, ap, ap₂, ◌∙◌}
 use mathlib.Core.List.{List, [], ◌∷◌, ◌++◌}
-use native.Mathlib.Nat.{le_antisymm}
+use native.Mathlib.Nat.{le_antisymm, zero-add}
 use native.Mathlib.Numerals.{add-one}
 use native.Mathlib.Omega.{arith}
 use lib.ListN.{length, get_or, set, take, drop, replicate, length-set, length-replicate, length-drop}
 use Rattle.std.proofs.Common.{get_or-drop}
 use Rattle.std.proofs.lemmas.List.{take_more}
 use lib.Seq.{drop-cons, set_at, append_snoc}
-use borrow.Rule.Slice.PartMut.{put_mid}
 use Rattle.finite.specs.Lists.{table}
-use Rattle.finite.proofs.Lists.{table-length, table_more}
+use Rattle.finite.proofs.Lists.{table-length, table_more, table_same}
 use Rattle.case.specs.Held.{pad}
 use Rattle.case.proofs.Pad.{padded}
 
@@ -53,7 +52,7 @@ module _ (n k : ℕ) (f : ℕ → ℕ) where
   all_padded out i t l = all_filled f k (replicate n 0) out i t l ∙ padded n k _ (table-length 0 k f)
 
 -- the part of xs from a place on, and as a table
-part-table : (xs : List ℕ) (from n : ℕ) → from + n ≤ length xs → take n (drop from xs) ≡ table 0 n (λ i. get_or xs (from + i) 0)
+pub part-table : (xs : List ℕ) (from n : ℕ) → from + n ≤ length xs → take n (drop from xs) ≡ table 0 n (λ i. get_or xs (from + i) 0)
 unfolding table
 part-table xs from zero h = refl
 part-table xs from (suc n) h =
@@ -62,7 +61,8 @@ part-table xs from (suc n) h =
     ∙ ap₂ (λ (x : List ℕ) (y : ℕ). x ++ (y ∷ [])) (part-table xs from n (omega arith)) (get_or-drop from xs n 0)
     ∙ sym (table_more n (λ i. get_or xs (from + i) 0)) ∙ ap (λ (j : ℕ). table 0 j (λ i. get_or xs (from + i) 0)) (add-one n)
 
--- n elements of xs copied to the front of a list
-pub copied_front : (xs : List ℕ) (from n : ℕ) (out : List ℕ) → from + n ≤ length xs → n ≤ length out
-    → (front : List ℕ) → front ≡ take (from + n - from) (drop from xs) → put_mid 0 n out front ≡ table 0 n (λ i. get_or xs (from + i) 0) ++ drop n out
-copied_front xs from n out h l front e = let m : from + n - from ≡ n = omega arith in rw (e, m, part-table xs from n h)
+-- the first n of xs, copied over zeros
+pub front_padded : (xs : List ℕ) (n most : ℕ) → n ≤ length xs → n ≤ most → take n xs ++ drop n (replicate most 0) ≡ pad most (table 0 n (λ i. get_or xs i 0))
+front_padded xs n most h l =
+    ap (λ (v : List ℕ). v ++ drop n (replicate most 0)) (part-table xs 0 n (omega arith) ∙ table_same 0 n _ _ (λ y a b. ap (λ (j : ℕ). get_or xs j 0) (zero-add y)))
+    ∙ padded most n _ (table-length 0 n _)

@@ -45,9 +45,6 @@ module _ (g : ℕ → List ℕ) (n most : ℕ) where
       in_room : y * most_events + most_events ≤ most * most_events
       in_room = omega (arith, t.room)
 
-      pub part_room : (j : ℕ) → j ≤ most_events → j ≤ length (take w (drop (y * most_events) out))
-      part_room j h = rw (part-zeros _ most_events out _ (y * most_events) w t.is front_length e in_room, length-replicate) h
-
       -- with a list at the front of its next part the table has that list too
       pub table-next : (last row : List ℕ) (j : ℕ) → row ≡ g y → length row ≡ j → last ≡ row ++ drop j (take w (drop (y * most_events) out))
           → Tabling g n most (put_mid (y * most_events) w out last) (y + 1)

@@ -1,13 +1,12 @@
 -- The renumbered case, field by field.
 -- Assumes nothing.
-use Prim.Native.Nat.{ℕ, zero, suc, ◌+◌, ◌*◌, ◌≤◌}
+use Prim.Native.Nat.{ℕ, zero, suc, ◌*◌}
 use mathlib.Core.Path.{◌≡◌, refl, sym, ap, ◌∙◌}
 use mathlib.Core.Bool.{true, cond}
-use mathlib.Core.List.{List, [], ◌∷◌, ◌++◌, map}
-use native.Mathlib.Nat.{zero-add}
+use mathlib.Core.List.{List, [], ◌∷◌, map}
 use native.Mathlib.Omega.{arith}
 use lib.Dec.{T}
-use lib.ListN.{length, get_or, drop, replicate}
+use lib.ListN.{length, get_or}
 use Rattle.finite.specs.Lists.{table}
 use Rattle.finite.proofs.Tests.{and_l, and_r, true-T}
 use Rattle.finite.proofs.Lists.{table_get, table_same, table-length}
@@ -18,12 +17,10 @@ use Rattle.model.specs.Case.{Event, Dependency, bare}
 use Rattle.model.specs.Renumber.{moved, relabel, renumber, fitting}
 use Rattle.case.specs.declared.Case.{Case as Held}
 use Rattle.case.specs.Held.{event_of, events_of, link, link_count, links_of, case_of, held, pad, rows_of}
-use Rattle.case.specs.Sound.{Sound}
 use Rattle.case.specs.Stores.{writes_at}
 use Rattle.case.proofs.Events.{event_by}
 use Rattle.case.proofs.Means.{writes-of}
 use Rattle.relabel.specs.Orders.{order}
-use Rattle.case.proofs.Pad.{padded}
 
 pub map-table : {A B : Type 0} (g : A → B) (i j : ℕ) (f : ℕ → A) → map g (table i j f) ≡ table i j (λ x. g (f x))
 unfolding table
@@ -35,14 +32,6 @@ pub moved-table : {A : Type 0} (q j : ℕ) (d : A) (f : ℕ → A) → T (fits q
 unfolding moved
 moved-table q j d f t =
     table_same 0 j _ _ (λ y l h. table_get j f (image (inverse q) y) d (fits_image (inverse q) j (fits-inverse q j t) y (omega arith)))
-
--- what was copied from a list's start into zeros
-pub copied : (n k : ℕ) (xs out : List ℕ) → out ≡ table 0 k (λ i. get_or xs (0 + i) 0) ++ drop k (replicate n 0) → out ≡ pad n (table 0 k (λ i. get_or xs i 0))
-copied n k xs out e = e ∙ padded n k _ (table-length 0 k _) ∙ ap (pad n) (table_same 0 k _ _ (λ y l h. ap (λ (j : ℕ). get_or xs j 0) (zero-add y)))
-
--- as many dependencies as there may be
-pub few_links : (c : Held) (i : ℕ) → i ≡ link_count c.edition c.dependencies → Sound c → i ≤ most_dependencies
-few_links c i e S = omega (arith, e, S.links_most)
 
 module _ (q r : ℕ) (c : Held) (fit : fitting q r (case_of c) ≡ true) where
   fit_threads : T (fits q c.threads)

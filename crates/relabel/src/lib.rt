@@ -14,22 +14,13 @@ ghost use Rattle.relabel.specs.Orders.{order};
 
 use case::Case;
 
-// Copies so many elements of xs, from a place on, to the front of out.
-fn copy(xs: &[u8], from: usize, count: usize, out: &mut [u8])
-    requires count_in_bounds { from + count ≤ length xs.now }
-    requires count_in_bounds_2 { count ≤ length out.old }
-    ensures { out.new ≡ table 0 count (λ i. get_or xs.now (from + i) 0) ++ drop count out.old }
-{
-    out[..count].copy_from_slice(&xs[from..from + count]);
-}
-
 // The first n of an array's numbers, and zeros.
 fn front<const N: usize>(xs: &[u8; N], n: usize) -> [u8; N]
     requires { n ≤ N }
     ensures { result ≡ pad N (table 0 n (λ i. get_or xs.now i 0)) }
 {
     let mut out = [0; N];
-    copy(xs, 0, n, &mut out);
+    out[..n].copy_from_slice(&xs[..n]);
     out
 }
 
@@ -123,14 +114,9 @@ fn write_orders(r: usize, c: &Case) -> [u8; Case::MOST_ADDRESSES * Case::MOST_EV
     for y in 0..c.addresses {
         let x = permutation::image(back, y);
         let count = case::count_stores(&c.kind, &c.address, c.events, x);
-        let start = y * Case::MOST_EVENTS;
-        let end = start + Case::MOST_EVENTS;
-        copy(
-            &c.writes,
-            x * Case::MOST_EVENTS,
-            count,
-            &mut out[start..end],
-        );
+        let from = x * Case::MOST_EVENTS;
+        let to = y * Case::MOST_EVENTS;
+        out[to..to + count].copy_from_slice(&c.writes[from..from + count]);
     }
     out
 }
