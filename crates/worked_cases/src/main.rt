@@ -9,117 +9,115 @@ mod numbers;
 mod records;
 mod text;
 
-use lines::{judged, renumbered};
+use lines::{judged_each, renumbered};
 use names::unprintable_names;
 use numbers::{number_forms, values_of_every_width};
-use text::{say, say_number};
+use text::say;
 
 fn orders_and_values(rt: &impl Print) {
-    judged(rt, b"Small record", &records::SMALL);
-    judged(rt, b"Small record, load 0", &records::LOAD_0);
-    judged(rt, b"Small record, load 2", &records::LOAD_2);
-    judged(rt, b"Small record, no pairs", &records::NO_PAIRS);
-    judged(rt, b"Small record, pairs 0,1 and 1,0", &records::BOTH_PAIRS);
-    judged(rt, b"Small record, pair 1,0 alone", &records::REVERSED_PAIR);
-    judged(
+    judged_each(
         rt,
-        b"Stores in one order, write order reversed",
-        &records::REVERSED_WRITES,
+        &[
+            ("Small record", &records::SMALL),
+            ("Small record, load 0", &records::LOAD_0),
+            ("Small record, load 2", &records::LOAD_2),
+            ("Small record, no pairs", &records::NO_PAIRS),
+            ("Small record, pairs 0,1 and 1,0", &records::BOTH_PAIRS),
+            ("Small record, pair 1,0 alone", &records::REVERSED_PAIR),
+            (
+                "Stores in one order, write order reversed",
+                &records::REVERSED_WRITES,
+            ),
+            ("One load of 2, initial value 0", &records::LONE_LOAD),
+        ],
     );
-    judged(rt, b"One load of 2, initial value 0", &records::LONE_LOAD);
 }
 
 fn known_tests(rt: &impl Print) {
-    judged(rt, b"Dekker", &records::DEKKER);
-    judged(rt, b"Message", &records::MESSAGE);
-    judged(
+    judged_each(
         rt,
-        b"Message, pair 0,4 in thread 0's order",
-        &records::MESSAGE_ORDERED,
+        &[
+            ("Dekker", &records::DEKKER),
+            ("Message", &records::MESSAGE),
+            (
+                "Message, pair 0,4 in thread 0's order",
+                &records::MESSAGE_ORDERED,
+            ),
+            ("CC", &records::CC),
+            (
+                "Message, thread 1's order from 3<4 only",
+                &records::MESSAGE_UNSEEN,
+            ),
+            ("IRIW", &records::IRIW),
+        ],
     );
-    judged(rt, b"CC", &records::CC);
-    judged(
-        rt,
-        b"Message, thread 1's order from 3<4 only",
-        &records::MESSAGE_UNSEEN,
-    );
-    judged(rt, b"IRIW", &records::IRIW);
 }
 
 // Edition 2: lwsync and dependencies.
 fn second_edition(rt: &impl Print) {
-    judged(rt, b"SB with lwsyncs", &records::SB_LWSYNC);
-    judged(rt, b"SB with syncs", &records::SB_SYNC);
-    judged(rt, b"MP with lwsyncs, the last load 0", &records::MP_LWSYNC);
-    judged(
+    judged_each(
         rt,
-        b"MP with one sync, thread 1 from 4<0<2<3",
-        &records::MP_SYNC,
+        &[
+            ("SB with lwsyncs", &records::SB_LWSYNC),
+            ("SB with syncs", &records::SB_SYNC),
+            ("MP with lwsyncs, the last load 0", &records::MP_LWSYNC),
+            ("MP with one sync, thread 1 from 4<0<2<3", &records::MP_SYNC),
+            (
+                "MP, an address dependency from 3 to 4",
+                &records::MP_DEPENDENCY,
+            ),
+            ("IRIW with lwsyncs", &records::IRIW_LWSYNC),
+        ],
     );
-    judged(
-        rt,
-        b"MP, an address dependency from 3 to 4",
-        &records::MP_DEPENDENCY,
-    );
-    judged(rt, b"IRIW with lwsyncs", &records::IRIW_LWSYNC);
 }
 
 // Dependencies that may not stand where they do.
 fn unfit_dependencies(rt: &impl Print) {
-    judged(
+    judged_each(
         rt,
-        b"A data dependency into a load",
-        &records::DATA_INTO_LOAD,
+        &[
+            ("A data dependency into a load", &records::DATA_INTO_LOAD),
+            ("A control dependency to a load", &records::CONTROL_TO_LOAD),
+            ("A dependency from a store", &records::FROM_STORE),
+            ("A dependency across threads", &records::ACROSS_THREADS),
+            (
+                "A dependency equal to the one before",
+                &records::EQUAL_ENTRIES,
+            ),
+            (
+                "A dependency below the one before",
+                &records::FALLING_ENTRIES,
+            ),
+            ("97 dependencies", &records::DEPENDENCIES_97),
+        ],
     );
-    judged(
-        rt,
-        b"A control dependency to a load",
-        &records::CONTROL_TO_LOAD,
-    );
-    judged(rt, b"A dependency from a store", &records::FROM_STORE);
-    judged(rt, b"A dependency across threads", &records::ACROSS_THREADS);
-    judged(
-        rt,
-        b"A dependency equal to the one before",
-        &records::EQUAL_ENTRIES,
-    );
-    judged(
-        rt,
-        b"A dependency below the one before",
-        &records::FALLING_ENTRIES,
-    );
-    judged(rt, b"97 dependencies", &records::DEPENDENCIES_97);
 }
 
 fn ranges(rt: &impl Print) {
-    judged(rt, b"Empty input", b"");
-    judged(rt, b"Edition 3", &records::EDITION_3);
-    judged(rt, b"Kind 3 in edition 1", &records::KIND_3);
-    judged(rt, b"n = 5", &records::THREADS_5);
-    judged(rt, b"k = 25", &records::EVENTS_25);
-    judged(rt, b"k = 64", &records::EVENTS_64);
-    judged(rt, b"k = 65", &records::EVENTS_65);
-    judged(rt, b"Name length 33", &records::NAME_33);
-}
-
-fn composed(rt: &impl Print, first: u64, then: u64) {
-    say(rt, b"First ");
-    say_number(rt, first);
-    say(rt, b" then ");
-    say_number(rt, then);
-    say(rt, b" is ");
-    say_number(rt, litmus::composite(first, then));
-    say(rt, b"\n");
+    judged_each(
+        rt,
+        &[
+            ("Empty input", b""),
+            ("Edition 3", &records::EDITION_3),
+            ("Kind 3 in edition 1", &records::KIND_3),
+            ("n = 5", &records::THREADS_5),
+            ("k = 25", &records::EVENTS_25),
+            ("k = 64", &records::EVENTS_64),
+            ("k = 65", &records::EVENTS_65),
+            ("Name length 33", &records::NAME_33),
+        ],
+    );
 }
 
 fn permutations(rt: &impl Print) {
-    composed(rt, 1, 6);
-    composed(rt, 9, 9);
-    composed(rt, 1, 2);
-    composed(rt, 2, 1);
-    say(rt, b"The inverse of 3 is ");
-    say_number(rt, litmus::inverse(3));
-    say(rt, b"\n");
+    for (first, then) in [(1, 6), (9, 9), (1, 2), (2, 1)] {
+        let both = litmus::composite(first, then);
+        say(rt, format_args!("First {first} then {then} is {both}\n"));
+    }
+    say(
+        rt,
+        format_args!("The inverse of 3 is {}\n", litmus::inverse(3)),
+    );
 }
 
 fn main(rt: HostRuntime) {
@@ -133,7 +131,7 @@ fn main(rt: HostRuntime) {
     unprintable_names(&rt);
     renumbered(
         &rt,
-        b"Small record, addresses by 6",
+        "Small record, addresses by 6",
         &records::SMALL,
         0,
         6,
@@ -141,7 +139,7 @@ fn main(rt: HostRuntime) {
     );
     renumbered(
         &rt,
-        b"Small record, addresses by 1",
+        "Small record, addresses by 1",
         &records::SMALL,
         0,
         1,
