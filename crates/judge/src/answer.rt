@@ -1,75 +1,49 @@
 // What is printed of a record.
-ghost use Rattle.std.specs.Prelude.{◌≤◌, length};
+ghost use Rattle.std.specs.Prelude.{◌≤◌, length, IfSome};
 
-use crate::text::{say, say_number, say_printable, say_refusal, say_rule};
+use crate::text::{refusal, rule, say, say_printable};
 use case::Case;
+use std::fmt;
 
+// The numbers of the models, as callers from C give them.
 const PPCW: u64 = 0;
 
 const PPCS: u64 = 1;
 
-// How many of the first events are the thread's.
-fn events_of(threads: [u8; Case::MOST_EVENTS], events: usize, p: usize) -> u64 {
-    let mut found: u64 = 0;
-    let mut e: usize = 0;
-    while e < Case::MOST_EVENTS {
-        if is_of(threads[e], p, e, events) {
-            found += 1;
+// What stands before an entry of a list.
+fn separator(i: usize) -> &'static str {
+    if i == 0 { "" } else { ", " }
+}
+
+// How many events each thread has.
+#[derive(Clone, Copy)]
+struct Threads<'a>(&'a Case);
+
+impl fmt::Display for Threads<'_> {
+    fn fmt<W: fmt::Write>(&self, f: &mut fmt::Formatter<W>) -> fmt::Result {
+        let c = self.0;
+        for p in 0..c.threads {
+            let own = c
+                .thread
+                .iter()
+                .take(c.events)
+                .filter(|t| usize::from(**t) == p);
+            write!(f, "{}{} on thread {p}", separator(p), own.count())?;
         }
-        e += 1;
-    }
-    found
-}
-
-// Whether e is one of so many events, and its thread is p.
-fn is_of(thread: u8, p: usize, e: usize, events: usize) -> bool {
-    if e < events {
-        return thread as usize == p;
-    }
-    false
-}
-
-// A list's separator, but before its first entry.
-fn say_comma(rt: &impl Print, i: usize) {
-    if 0 < i {
-        say(rt, b", ");
+        Ok(())
     }
 }
 
-// The events of a thread, if the case has it.
-fn say_thread(rt: &impl Print, c: Case, p: usize) {
-    if p < c.threads {
-        say_comma(rt, p);
-        let threads = c.thread;
-        say_number(rt, events_of(threads, c.events, p));
-        say(rt, b" on thread ");
-        say_number(rt, p as u64);
-    }
-}
+// The final value of each address.
+#[derive(Clone, Copy)]
+struct Finals<'a>(&'a [u32]);
 
-fn say_threads(rt: &impl Print, c: Case) {
-    let mut p: usize = 0;
-    while p < Case::MOST_THREADS {
-        say_thread(rt, c, p);
-        p += 1;
-    }
-}
-
-// The final value of an address, if the case has it.
-fn say_final(rt: &impl Print, value: u32, addresses: usize, x: usize) {
-    if x < addresses {
-        say_comma(rt, x);
-        say_number(rt, value as u64);
-        say(rt, b" at address ");
-        say_number(rt, x as u64);
-    }
-}
-
-fn say_finals(rt: &impl Print, finals: [u32; Case::MOST_ADDRESSES], addresses: usize) {
-    let mut x: usize = 0;
-    while x < Case::MOST_ADDRESSES {
-        say_final(rt, finals[x], addresses, x);
-        x += 1;
+impl fmt::Display for Finals<'_> {
+    fn fmt<W: fmt::Write>(&self, f: &mut fmt::Formatter<W>) -> fmt::Result {
+        for (x, value) in self.0.iter().enumerate() {
+            write!(f, "{}{value} at address {x}", separator(x))?;
+        }
+        Ok(())
     }
 }
 
@@ -77,82 +51,76 @@ fn say_finals(rt: &impl Print, finals: [u32; Case::MOST_ADDRESSES], addresses: u
 fn say_verdict(rt: &impl Print, record: &[u8], model: u64, addresses: usize) {
     let answer = litmus::judge(record, model);
     if answer.number == 0 {
-        say(rt, b"accepted; final values: ");
-        let finals = answer.finals;
-        say_finals(rt, finals, addresses);
-        return;
+        let finals = &answer.finals[..addresses.min(Case::MOST_ADDRESSES)];
+        say(
+            rt,
+            format_args!("accepted; final values: {}", Finals(finals)),
+        );
+    } else {
+        say(
+            rt,
+            format_args!("breaks rule {} {}", answer.number, rule(answer.number)),
+        );
     }
-    say(rt, b"breaks rule ");
-    say_number(rt, answer.number as u64);
-    say(rt, b" ");
-    say_rule(rt, answer.number);
 }
 
 // The name of the record at the start of the bytes.
 fn say_name(rt: &impl Print, bytes: &[u8]) {
     let name = litmus::name(bytes);
-    if name.len() == 0 {
-        say(rt, b", without a name");
-        return;
-    }
-    say(rt, b": ");
-    say_printable(rt, name);
-}
-
-// How many dependencies a case of edition 2 has.
-fn say_edition(rt: &impl Print, c: Case) {
-    if case::is_second(c.edition) {
-        say(rt, b"\n  edition  2; dependencies: ");
-        say_number(rt, c.dependencies as u64);
+    if name.is_empty() {
+        say(rt, ", without a name");
+    } else {
+        say(rt, ": ");
+        say_printable(rt, name);
     }
 }
 
 // A record that was read, and starts at the byte of the input.
-fn say_record(rt: &impl Print, bytes: &[u8], c: Case, length: usize, from: u64) {
+fn say_record(rt: &impl Print, bytes: &[u8], c: &Case, length: usize, from: u64) {
     say_name(rt, bytes);
-    say(rt, b"\n  place    byte ");
-    say_number(rt, from);
-    say(rt, b", ");
-    say_number(rt, length as u64);
-    say(rt, b" bytes long\n  events   ");
-    say_threads(rt, c);
-    say_edition(rt, c);
-    say(rt, b"\n  PPCw     ");
+    say(
+        rt,
+        format_args!(
+            "\n  place    byte {from}, {length} bytes long\n  events   {}",
+            Threads(c)
+        ),
+    );
+    if case::is_second(c.edition) {
+        say(
+            rt,
+            format_args!("\n  edition  2; dependencies: {}", c.dependencies),
+        );
+    }
+    say(rt, "\n  PPCw     ");
     say_verdict(rt, bytes, PPCW, c.addresses);
-    say(rt, b"\n  PPCs     ");
+    say(rt, "\n  PPCs     ");
     say_verdict(rt, bytes, PPCS, c.addresses);
-    say(rt, b"\n\n");
+    say(rt, "\n\n");
 }
 
 // A record that can't be read, and starts at the byte of the input.
 fn say_refused(rt: &impl Print, number: u32, place: usize, from: u64) {
-    say(rt, b"\n  place    byte ");
-    say_number(rt, from);
-    say(rt, b"\n  refused  number ");
-    say_number(rt, number as u64);
-    say(rt, b" at byte ");
-    say_number(rt, std::num::wrapping_add_u64(from, place as u64));
-    say(rt, b": ");
-    say_refusal(rt, number);
+    let at = from.wrapping_add(place as u64);
     say(
         rt,
-        b"\n  The rest of the input is left: where its next record starts can't be known.\n\n",
+        format_args!(
+            "\n  place    byte {from}\n  refused  number {number} at byte {at}: {}\n  The rest of the input is left: where its next record starts can't be known.\n\n",
+            refusal(number)
+        ),
     );
 }
 
-// The record at the start of the bytes. Gives its length, or 0 where it can't be read.
-pub fn show(rt: &impl Print, bytes: &[u8], from: u64, record: u64) -> usize
-    ensures { result ≤ length bytes.now }
+// The record at the start of the bytes. Gives its length, or none where it can't be read.
+pub fn show(rt: &impl Print, bytes: &[u8], from: u64, record: u64) -> Option<usize>
+    ensures { IfSome result (λ n. n ≤ length bytes.now) }
 {
     let reading = litmus::read(bytes);
     let answer = reading.answer;
-    say(rt, b"record ");
-    say_number(rt, record);
-    if answer.number == 0 {
-        let case = reading.case;
-        say_record(rt, bytes, case, answer.length, from);
-    } else {
+    say(rt, format_args!("record {record}"));
+    if answer.number != 0 {
         say_refused(rt, answer.number, answer.place, from);
+        return None;
     }
-    answer.length
+    say_record(rt, bytes, &reading.case, answer.length, from);
+    Some(answer.length)
 }

@@ -13,7 +13,7 @@ use std::io;
 use std::io::ErrorKind;
 use std::rt::{Env, Files};
 use stream::fail;
-use text::{say, say_escaped};
+use text::{Escaped, say};
 
 // Room for an argument, as long as a path may be.
 const ROOM: usize = 4096;
@@ -21,38 +21,19 @@ const ROOM: usize = 4096;
 // Linux's number of the error that a name is too long.
 const TOO_LONG: i32 = 36;
 
-fn say_usage(rt: &impl Print) {
-    say(
-        rt,
-        b"Judges litmus records under the models PPCw and PPCs. Records may lie back to back.\n\n",
-    );
-    say(
-        rt,
-        b"    judge             judges the records of standard input\n",
-    );
-    say(
-        rt,
-        b"    judge FILE ..     judges the records of each file\n",
-    );
-    say(rt, b"    judge --help      prints this text\n\n");
-    say(
-        rt,
-        b"Each record is answered by its name, its place and length, its events by thread (in edition 2\n",
-    );
-    say(
-        rt,
-        b"also how many dependencies it has), and under each model either 'accepted' with the final\n",
-    );
-    say(rt, b"memory or the lowest rule that it breaks.\n");
-    say(
-        rt,
-        b"After a record that can't be read the rest of that input is left, since the next record\n",
-    );
-    say(
-        rt,
-        b"can't be found. Bytes of FILE that don't print are shown as \\xHH, a backslash as two.\n",
-    );
-}
+const USAGE: &str = "\
+Judges litmus records under the models PPCw and PPCs. Records may lie back to back.
+
+    judge             judges the records of standard input
+    judge FILE ..     judges the records of each file
+    judge --help      prints this text
+
+Each record is answered by its name, its place and length, its events by thread (in edition 2
+also how many dependencies it has), and under each model either 'accepted' with the final
+memory or the lowest rule that it breaks.
+After a record that can't be read the rest of that input is left, since the next record
+can't be found. Bytes of FILE that don't print are shown as \\xHH, a backslash as two.
+";
 
 // Opens a file. The system is asked only for names that are text.
 fn opened<R: Files>(rt: &R, path: &[u8]) -> io::Result<R::File> {
@@ -62,25 +43,19 @@ fn opened<R: Files>(rt: &R, path: &[u8]) -> io::Result<R::File> {
     }
 }
 
-fn judge_path(rt: &(impl Files + Print), errors: &impl Print, path: &[u8]) {
-    match opened(rt, path) {
-        Ok(mut file) => {
-            say(rt, b"file ");
-            say_escaped(rt, path);
-            say(rt, b"\n\n");
-            judge_input(rt, errors, &mut file, path);
-        }
-        Err(e) => fail(errors, path, &e),
-    }
+fn judge_path(rt: &(impl Files + Print), path: &[u8]) -> io::Result<()> {
+    let mut file = opened(rt, path)?;
+    say(rt, format_args!("file {}\n\n", Escaped(path)));
+    judge_input(rt, &mut file)
 }
 
 // What an argument asks for.
 fn take_word(rt: &(impl Files + Print), errors: &impl Print, word: &[u8]) {
-    if check::same(word, b"--help") {
-        say_usage(rt);
-        return;
+    if word == b"--help".as_slice() {
+        say(rt, USAGE);
+    } else if let Err(e) = judge_path(rt, word) {
+        fail(errors, word, &e);
     }
-    judge_path(rt, errors, word);
 }
 
 // Does what argument i asks for, if there is one.
@@ -109,7 +84,7 @@ fn main(rt: HostRuntime) {
     let errors = rt.stderr();
     if take_argument(&rt, &errors, 1) {
         take_arguments(&rt, &errors);
-        return;
+    } else if let Err(e) = judge_input(&rt, &mut rt.stdin()) {
+        fail(&errors, b"standard input", &e);
     }
-    judge_input(&rt, &errors, &mut rt.stdin(), b"standard input");
 }

@@ -3,19 +3,17 @@
 use Prim.Native.Nat.{ℕ, zero, suc, ◌+◌, ◌-◌, ◌*◌, ◌^◌, ◌≤◌, ◌<◌}
 use native.Mathlib.Omega.{arith}
 use native.Mathlib.Nat.{mod-eq_of_lt, sub-zero}
-use mathlib.Core.Path.{◌≡◌, refl, sym, ap, ◌∙◌}
-use mathlib.Core.Bool.{Bool, true, false, not, cond, ◌||◌, true≢false}
+use mathlib.Core.Path.{◌≡◌, refl, sym, ap, subst, ◌∙◌}
+use mathlib.Core.Bool.{Bool, true, false, cond, ◌||◌, true≢false}
 use mathlib.Core.List.{List, [], ◌∷◌, ◌++◌, append_assoc, append-nil}
 use lib.Dec.{leb, ltb}
 use lib.ListN.{length, take, drop, take-append-drop}
 use lib.Seq.{length-take-le, take-take, take-nil, drop-append-le}
-use borrow.Author.Tests.{ltb-false, le-leb, lt-leb}
-use Rattle.finite.proofs.Tests.{or_r}
+use borrow.Author.Tests.{ltb-false, lt-leb}
 use Rattle.finite.proofs.All.{all-front}
 use Rattle.model.specs.Limits.{most_edition}
 use Rattle.model.specs.Bound.{most_bytes}
 use Rattle.reader.proofs.Bytes.{Octets, slice_bytes}
-use Rattle.tally.specs.declared.Tally.{Tally}
 use Rattle.tally.specs.Tally.{zeros}
 use Rattle.log_model.specs.Log.{log_from, Summary, log_tallied, summary}
 use Rattle.log_model.specs.Pieces.{Answer, judge_log, Fed, going, over, following, completed, joined}
@@ -26,8 +24,32 @@ use Rattle.log_pieces.specs.declared.JudgedLog.{JudgedLog}
 use Rattle.log_pieces.specs.Shown.{judged_shown, PartJudged}
 use Rattle.stream.specs.declared.Got.{Got}
 use Rattle.stream.specs.Kept.{kept, ReadOn}
+use Rattle.std.specs.Prelude.{Result, Ok, Err}
+use Rattle.std.specs.declared.io.Error.{Error}
 use Rattle.judge_log.specs.declared.input.Progress.{Progress}
-use Rattle.judge_log.specs.Progress.{Room, begun, given_up, after, held_on, is_due, JudgedHeld, AfterRead, unreadable, judging, keeping, Ready, Stepped, Reached, first, next, Finished, summary_of, WholeLog}
+use Rattle.judge_log.specs.declared.input.Outcome.{Outcome}
+use Rattle.judge_log.specs.declared.input.State.{State}
+use Rattle.judge_log.specs.declared.input.State.TheVariants.{Going, Over}
+use Rattle.judge_log.specs.Progress.{Room, begun, after, held_on, is_due, JudgedHeld, AfterRead, unreadable, judging, keeping, Ready, Stepped, Reached, first, next, Finished, summary_of, WholeLog}
+
+-- ---- states
+
+-- the progress of a log that goes on, and the state that is there
+abbrev progress_or : Progress → State → Progress
+progress_or p (Going q) = q
+progress_or p (Over o) = p
+
+abbrev goes_on : State → Bool
+goes_on (Going q) = true
+goes_on (Over o) = false
+
+abbrev state_or : State → Result State Error → State
+state_or s (Ok x) = x
+state_or s (Err e) = s
+
+abbrev was_read : Result State Error → Bool
+was_read (Ok x) = true
+was_read (Err e) = false
 
 -- ---- the call
 
@@ -67,13 +89,34 @@ module _ (have : ℕ) (b : List ℕ) (R : Room (length b)) (l : have ≤ length 
       let h : call.ending.place ≤ p.place + length front = ending-within front (all-front _ front (drop J.upto b) (rw take-append-drop (slice_bytes b octets))) p.place final p.tally in
       omega (arith, place-fits p.place p.tally P, R.most, front_long, within)
 
-  pub judged-held : JudgedHeld b have final p (record { at = r.answer.length; have = have; place = p.place + r.answer.length; tally = r.tally; due = 2 * (have - r.answer.length); done = r.answer.ended; failed = false; number = r.answer.number; end = r.answer.place })
-  judged-held = record {
+  is_over : r.answer.ended ≡ true → Over (record { tally = r.tally; number = r.answer.number; place = r.answer.place }) ≡ after p.place have call
+  unfolding after
+  is_over e = let y : call.ended ≡ true = rw is_call at e in rw (is_call, mod-eq_of_lt end-small, y)
+
+  is_going : r.answer.ended ≡ false
+      → Going (record { at = r.answer.length; have = have; place = p.place + r.answer.length; tally = r.tally; due = 2 * (have - r.answer.length) }) ≡ after p.place have call
+  unfolding after
+  is_going e = let n : call.ended ≡ false = rw is_call at e in rw (is_call, n)
+
+  pub judged-over : r.answer.ended ≡ true → JudgedHeld b have final p (Over (record { tally = r.tally; number = r.answer.number; place = r.answer.place }))
+  judged-over e = record {
     upto = J.upto;
     within = within;
     whole = λ h. J.whole h ∙ long;
-    same = unfold after in rw (is_call, mod-eq_of_lt end-small);
-    few = λ h. omega (arith, J.few h, long);
+    same = is_over e;
+    few = λ q h. absurd (true≢false (sym (ap goes_on h)));
+  }
+
+  pub judged-going : r.answer.ended ≡ false
+      → JudgedHeld b have final p (Going (record { at = r.answer.length; have = have; place = p.place + r.answer.length; tally = r.tally; due = 2 * (have - r.answer.length) }))
+  judged-going e = record {
+    upto = J.upto;
+    within = within;
+    whole = λ h. J.whole h ∙ long;
+    same = is_going e;
+    few = λ q h.
+        let l : r.answer.length ≡ q.at = ap (λ (s : State). (progress_or p s).at) h in
+        omega (arith, J.few e, long, l);
   }
 
 -- ---- a turn
@@ -96,16 +139,21 @@ data Then (f f' : Fed) : Type 0 where
   last : (piece : List ℕ) → f' ≡ over (completed f piece) → Then f f'
 
 -- the log as far as it was read, of which the buffer b holds what is kept
-unfoldable fed_of : List ℕ → Progress → Fed
-fed_of b p = cond p.done (over (summary_of p)) (going (kept b p.at p.have) p.place p.tally)
+unfoldable fed_of : List ℕ → State → Fed
+fed_of b (Going p) = going (kept b p.at p.have) p.place p.tally
+fed_of b (Over o) = over (summary_of o)
+
+-- what is ready for the next read, where there is one
+abbrev ready_of : List ℕ → State → Type 0
+ready_of b (Going p) = Ready b p
+ready_of b (Over o) = Unit {0}
 
 -- what one turn keeps
-record Onward (b : List ℕ) (p : Progress) (b' : List ℕ) (r : Progress) : Type 0 where
-  fed : r.failed ≡ false → Then (fed_of b p) (fed_of b' r)
-  ready : r.done ≡ false → Ready b' r
-  failed : r.failed ≡ true → r.done ≡ true
+record Onward (b : List ℕ) (p : Progress) (b' : List ℕ) (r : State) : Type 0 where
+  fed : Then (fed_of b (Going p)) (fed_of b' r)
+  ready : ready_of b' r
 
-module _ (b : List ℕ) (p : Progress) (P : Ready b p) (b' : List ℕ) (got : Got) (R : ReadOn b p.at p.have b' got) where
+module _ (b : List ℕ) (p : Progress) (P : Ready b p) (b' : List ℕ) (got : Got) (R : ReadOn b p.at p.have b' (Ok got)) where
   abbrev have : ℕ
   have = got.have
 
@@ -119,43 +167,38 @@ module _ (b : List ℕ) (p : Progress) (P : Ready b p) (b' : List ℕ) (got : Go
   both : take have b' ≡ held ++ piece
   both =
       sym (take-append-drop (p.have - p.at) (take have b'))
-      ∙ ap (λ (x : List ℕ). x ++ piece) (take-take (p.have - p.at) have b' R.more ∙ R.front)
+      ∙ ap (λ (x : List ℕ). x ++ piece) (take-take (p.have - p.at) have b' R.got.more ∙ R.front)
 
   room : have ≤ length b'
-  room = omega (arith, R.inside, R.room)
+  room = omega (arith, R.got.inside, R.room)
 
   abbrev whole : List ℕ → Summary
   whole rest = log_tallied p.tally (log_from p.place rest)
 
-  before : (rest : List ℕ) → completed (fed_of b p) rest ≡ whole (held ++ rest)
+  before : (rest : List ℕ) → completed (fed_of b (Going p)) rest ≡ whole (held ++ rest)
   unfolding fed_of
-  before rest = rw P.going
+  before rest = refl
 
   -- what was kept and read, with the rest behind it
-  behind : (rest : List ℕ) → whole (take have b' ++ rest) ≡ completed (fed_of b p) (piece ++ rest)
+  behind : (rest : List ℕ) → whole (take have b' ++ rest) ≡ completed (fed_of b (Going p)) (piece ++ rest)
   behind rest = ap (λ (s : List ℕ). whole (s ++ rest)) both ∙ ap whole (append_assoc held piece rest) ∙ sym (before (piece ++ rest))
 
-  turn_failed : Onward b p b' (given_up p)
-  turn_failed = record { fed = λ h. absurd (true≢false h); ready = λ h. absurd (true≢false h); failed = λ _. refl }
-
-  after-held : (rest : List ℕ) → completed (fed_of b' (held_on have p)) rest ≡ whole (take have b' ++ rest)
+  after-held : (rest : List ℕ) → completed (fed_of b' (Going (held_on have p))) rest ≡ whole (take have b' ++ rest)
   unfolding fed_of
-  after-held rest = rw (P.going, sub-zero)
+  after-held rest = rw sub-zero
 
   -- more bytes are kept
-  turn_held : is_due got.ended have p.due ≡ false → p.failed ≡ false → Onward b p b' (held_on have p)
-  turn_held n g = record {
-    fed = λ _. more piece (λ rest. after-held rest ∙ behind rest);
-    ready = λ _. record {
-      going = P.going;
+  turn_held : is_due got.ended have p.due ≡ false → Onward b p b' (Going (held_on have p))
+  turn_held n = record {
+    fed = more piece (λ rest. after-held rest ∙ behind rest);
+    ready = record {
       held = record { from = omega arith; inside = room };
       few = omega (arith, ltb-false (most_bytes most_edition) have (or_r-false (leb p.due have) (ltb (most_bytes most_edition) have) (or_r-false got.ended (leb p.due have || ltb (most_bytes most_edition) have) n)));
       placed = P.placed;
     };
-    failed = λ h. absurd (true≢false (sym h ∙ g));
   }
 
-  module _ (r : Progress) (H : JudgedHeld b' have got.ended p r) where
+  module _ (r : State) (H : JudgedHeld b' have got.ended p r) where
     abbrev taken : List ℕ
     taken = take H.upto b'
 
@@ -176,12 +219,19 @@ module _ (b : List ℕ) (p : Progress) (P : Ready b p) (b' : List ℕ) (got : Go
     left : kept b' answer.judged have ≡ drop answer.judged taken ++ later
     left = sym (drop-take answer.judged have b') ∙ ap (drop answer.judged) parts ∙ drop-append-le answer.judged taken later inside
 
+    -- the state behind the call, where the log has ended or goes on
+    abbrev over_then : Outcome
+    over_then = record { tally = answer.tally; number = answer.ending.number; place = answer.ending.place }
+
+    abbrev going_then : Progress
+    going_then = record { at = answer.judged; have = have; place = p.place + answer.judged; tally = answer.tally; due = 2 * (have - answer.judged) }
+
     after-following : (rest : List ℕ) → completed (fed_of b' (after p.place have answer)) rest ≡ completed (following p.place taken answer) (later ++ rest)
     unfolding fed_of after
     after-following rest = go answer.ended
       where
         go : (y : Bool)
-            → completed (cond y (over (record { tally = answer.tally; ending = answer.ending })) (going (kept b' answer.judged have) (p.place + answer.judged) answer.tally)) rest
+            → completed (fed_of b' (cond y (Over over_then) (Going going_then))) rest
             ≡ completed (cond y (over (record { tally = answer.tally; ending = answer.ending })) (going (drop answer.judged taken) (p.place + answer.judged) answer.tally)) (later ++ rest)
         go true = refl
         go false = ap (λ (s : List ℕ). log_tallied answer.tally (log_from (p.place + answer.judged) s)) (ap (λ (s : List ℕ). s ++ rest) left ∙ append_assoc (drop answer.judged taken) later rest)
@@ -193,37 +243,42 @@ module _ (b : List ℕ) (p : Progress) (P : Ready b p) (b' : List ℕ) (got : Go
     following_on : got.ended ≡ false → (rest : List ℕ) → completed (following p.place taken answer) rest ≡ whole (taken ++ rest)
     following_on n rest = rw n (on_call p.place taken rest p.tally)
 
-    fed_more : got.ended ≡ false → Then (fed_of b p) (fed_of b' r)
+    fed_more : got.ended ≡ false → Then (fed_of b (Going p)) (fed_of b' r)
     fed_more n = more piece (λ rest. rw H.same (after-following rest ∙ following_on n (later ++ rest) ∙ joined_again rest ∙ behind rest))
 
     -- at its end
-    fed_last : got.ended ≡ true → Then (fed_of b p) (fed_of b' r)
+    fed_last : got.ended ≡ true → Then (fed_of b (Going p)) (fed_of b' r)
     unfolding fed_of after
-    fed_last y = last piece (rw (H.same, y, ended-last p.place taken p.tally) (ap over (last-call p.place taken p.tally ∙ ap whole (all ∙ sym (append-nil (take have b'))) ∙ behind [] ∙ ap (λ (s : List ℕ). completed (fed_of b p) s) (append-nil piece))))
+    fed_last y = last piece (rw (H.same, y, ended-last p.place taken p.tally) (ap over (last-call p.place taken p.tally ∙ ap whole (all ∙ sym (append-nil (take have b'))) ∙ behind [] ∙ ap (λ (s : List ℕ). completed (fed_of b (Going p)) s) (append-nil piece))))
       where
         all : taken ≡ take have b'
         all = ap (λ (i : ℕ). take i b') (H.whole y)
 
-    fed_on : (y : Bool) → got.ended ≡ y → Then (fed_of b p) (fed_of b' r)
+    fed_on : (y : Bool) → got.ended ≡ y → Then (fed_of b (Going p)) (fed_of b' r)
     fed_on true y = fed_last y
     fed_on false n = fed_more n
 
-    ready_on : r.done ≡ false → Ready b' r
-    ready_on e = record {
-      going = e;
-      held = rw H.same (unfold after in record { from = omega (arith, inside, length-take-le H.upto b' (omega (arith, H.within, room)), H.within); inside = room });
-      few = rw H.same (unfold after in rw H.same at (H.few e));
-      placed = rw H.same (unfold after in placed-call p.place got.ended taken p.tally P.placed);
-    }
+    ready_on : ready_of b' r
+    ready_on = rw H.same (unfold after in go answer.ended refl)
+      where
+        go : (y : Bool) → answer.ended ≡ y → ready_of b' (cond y (Over over_then) (Going going_then))
+        go true e = tt
+        go false e = record {
+          held = record { from = omega (arith, inside, length-take-le H.upto b' (omega (arith, H.within, room)), H.within); inside = room };
+          few = H.few going_then (H.same ∙ (unfold after in rw e));
+          placed = placed-call p.place got.ended taken p.tally P.placed;
+        }
 
     turn_judged : Onward b p b' r
-    unfolding after
-    turn_judged = record { fed = λ _. fed_on got.ended refl; ready = ready_on; failed = λ h. absurd (true≢false (sym (rw H.same at h))) }
+    turn_judged = record { fed = fed_on got.ended refl; ready = ready_on }
 
-  turn : p.failed ≡ false → (r : Progress) → AfterRead b' got p r → Onward b p b' r
-  turn g r (unreadable f e) = rw e turn_failed
-  turn g r (judging f d H) = turn_judged r H
-  turn g r (keeping f n e) = rw e (turn_held n g)
+turn : (b : List ℕ) (p : Progress) → Ready b p → (b' : List ℕ) (got : Result Got Error) → ReadOn b p.at p.have b' got → (r : Result State Error) → AfterRead b' got p r
+    → (s : State) → r ≡ Ok s → Onward b p b' s
+turn b p P b' got R r (unreadable e f h) s k = absurd (true≢false (ap was_read (sym k ∙ h)))
+turn b p P b' got R r (judging g x f d H h) s k =
+    subst (Onward b p b') (ap (state_or x) (sym h ∙ k)) (turn_judged b p P b' g (subst (ReadOn b p.at p.have b') f R) x H)
+turn b p P b' got R r (keeping g f n h) s k =
+    subst (Onward b p b') (ap (state_or s) (sym h ∙ k)) (turn_held b p P b' g (subst (ReadOn b p.at p.have b') f R) n)
 
 -- ---- the log
 
@@ -240,135 +295,97 @@ joined-last (x ∷ pieces) piece rest =
     ∙ sym (append_assoc x (joined pieces) (piece ++ rest))
 
 -- a log that goes on has no summary yet, and one that has ended is its summary
-still_going : (b : List ℕ) (p : Progress) → p.done ≡ false → (r : Summary) → fed_of b p ≡ over r → ⊥
+still_going : (b : List ℕ) (p : Progress) (r : Summary) → fed_of b (Going p) ≡ over r → ⊥
 unfolding fed_of
-still_going b p h r e = let z : ◌≡◌ {A = ℕ} 0 1 = clash (rw h at e) in omega arith
+still_going b p r e = let z : ◌≡◌ {A = ℕ} 0 1 = clash e in omega arith
   where
     clash : going (kept b p.at p.have) p.place p.tally ≡ over r → ◌≡◌ {A = ℕ} 0 1
     clash e = cc
 
-over_is : (b : List ℕ) (p : Progress) → p.done ≡ true → (rest : List ℕ) → completed (fed_of b p) rest ≡ summary_of p
+over_is : (b : List ℕ) (o : Outcome) (rest : List ℕ) → completed (fed_of b (Over o)) rest ≡ summary_of o
 unfolding fed_of
-over_is b p h rest = rw h
+over_is b o rest = refl
 
-pub not_done : (y : Bool) → not y ≡ true → y ≡ false
-not_done true h = sym h
-not_done false h = refl
+-- what is made of the log
+abbrev made_of : List ℕ → State → Type 0
+made_of b (Going p) = Made (fed_of b (Going p))
+made_of b (Over o) = WholeLog o
 
 -- what holds after any reads
-record Running (b : List ℕ) (p : Progress) : Type 0 where
+record Running (b : List ℕ) (s : State) : Type 0 where
   room : Room (length b)
-  made : p.done ≡ false → Made (fed_of b p)
-  ready : p.done ≡ false → Ready b p
-  going : p.done ≡ false → p.failed ≡ false
-  ended : p.done ≡ true → p.failed ≡ false → WholeLog p
+  made : made_of b s
+  ready : ready_of b s
 
-running_first : (b : List ℕ) → Room (length b) → Running b begun
+running_first : (b : List ℕ) → Room (length b) → Running b (Going begun)
 unfolding fed_of summary
 running_first b R = record {
   room = R;
-  made = λ _. record { pieces = []; same = λ rest. unfold joined in refl };
-  ready = λ _. record {
-    going = refl;
+  made = record { pieces = []; same = λ rest. unfold joined in refl };
+  ready = record {
     held = record { from = omega arith; inside = omega arith };
     few = omega arith;
     placed = record { few = omega arith; most = omega arith };
   };
-  going = λ _. refl;
-  ended = λ h. absurd (true≢false (sym h));
 }
 
-module _ (b : List ℕ) (p : Progress) (N : Running b p) (d : p.done ≡ false) (b' : List ℕ) (r : Progress) (o : Onward b p b' r) where
-  F : Made (fed_of b p)
-  F = N.made d
-
-  not_failed : r.done ≡ false → r.failed ≡ false
-  not_failed h = go r.failed refl
-    where
-      go : (y : Bool) → r.failed ≡ y → r.failed ≡ false
-      go false e = e
-      go true e = absurd (true≢false (sym (o.failed e) ∙ h))
+module _ (b : List ℕ) (p : Progress) (N : Running b (Going p)) (b' : List ℕ) where
+  F : Made (fed_of b (Going p))
+  F = N.made
 
   -- the pieces with one more
-  on_more : (piece rest : List ℕ) → completed (fed_of b p) (piece ++ rest) ≡ summary zeros (joined (F.pieces ++ (piece ∷ [])) ++ rest)
+  on_more : (piece rest : List ℕ) → completed (fed_of b (Going p)) (piece ++ rest) ≡ summary zeros (joined (F.pieces ++ (piece ∷ [])) ++ rest)
   on_more piece rest = F.same (piece ++ rest) ∙ ap (summary zeros) (sym (joined-last F.pieces piece rest))
 
-  made_on : r.done ≡ false → Made (fed_of b' r)
-  made_on h = go (o.fed (not_failed h))
-    where
-      go : Then (fed_of b p) (fed_of b' r) → Made (fed_of b' r)
-      go (more piece e) = record { pieces = F.pieces ++ (piece ∷ []); same = λ rest. e rest ∙ on_more piece rest }
-      go (last piece e) = absurd (still_going b' r h (completed (fed_of b p) piece) e)
+  none : (s : List ℕ) → summary zeros (s ++ []) ≡ summary zeros s
+  none s = ap (summary zeros) (append-nil s)
 
-  whole_log : r.done ≡ true → r.failed ≡ false → WholeLog r
-  whole_log h f = go (o.fed f)
-    where
-      none : (s : List ℕ) → summary zeros (s ++ []) ≡ summary zeros s
-      none s = ap (summary zeros) (append-nil s)
+  made_on : (r : State) → Then (fed_of b (Going p)) (fed_of b' r) → made_of b' r
+  made_on (Going q) (more piece e) = record { pieces = F.pieces ++ (piece ∷ []); same = λ rest. e rest ∙ on_more piece rest }
+  made_on (Going q) (last piece e) = absurd (still_going b' q (completed (fed_of b (Going p)) piece) e)
+  made_on (Over o) (more piece e) = record { pieces = F.pieces ++ (piece ∷ []); same = sym (over_is b' o []) ∙ e [] ∙ on_more piece [] ∙ none _ }
+  made_on (Over o) (last piece e) = record {
+    pieces = F.pieces ++ (piece ∷ []);
+    same =
+        sym (over_is b' o []) ∙ ap (λ (f : Fed). completed f []) e
+        ∙ ap (λ (s : List ℕ). completed (fed_of b (Going p)) s) (sym (append-nil piece)) ∙ on_more piece [] ∙ none _;
+  }
 
-      go : Then (fed_of b p) (fed_of b' r) → WholeLog r
-      go (more piece e) = record { pieces = F.pieces ++ (piece ∷ []); same = sym (over_is b' r h []) ∙ e [] ∙ on_more piece [] ∙ none _ }
-      go (last piece e) = record {
-        pieces = F.pieces ++ (piece ∷ []);
-        same =
-            sym (over_is b' r h []) ∙ ap (λ (f : Fed). completed f []) e
-            ∙ ap (λ (s : List ℕ). completed (fed_of b p) s) (sym (append-nil piece)) ∙ on_more piece [] ∙ none _;
-      }
+  running_on : (r : State) → Onward b p b' r → length b' ≡ length b → Running b' r
+  running_on r o l = record { room = rw l N.room; made = made_on r o.fed; ready = o.ready }
 
-  running_on : length b' ≡ length b → Running b' r
-  running_on l = record { room = rw l N.room; made = made_on; ready = o.ready; going = not_failed; ended = whole_log }
-
-running : {b : List ℕ} {p : Progress} → Reached b p → Running b p
-running (first b R) = running_first b R
-running (next {b} {b'} {p} {r} h d S) =
-    let N : Running b p = running h in
-    running_on b p N d b' r (turn b p (N.ready d) b' S.got S.read (N.going d) r S.after_read) S.read.room
+running : {b : List ℕ} {r : Result State Error} → Reached b r → (s : State) → r ≡ Ok s → Running b s
+running (first b R) s e = subst (Running b) (ap (state_or s) e) (running_first b R)
+running (next {b} {b'} {p} {r} h S) s e =
+    let N : Running b (Going p) = running h (Going p) refl in
+    running_on b p N b' s (turn b p N.ready b' S.got S.read r S.after_read s e) S.read.room
 
 -- ---- the loop
 
-pub reached-first : (b : List ℕ) → Room (length b) → (p : Progress) → p ≡ begun → Reached b p
+pub reached-first : (b : List ℕ) → Room (length b) → (p : Progress) → p ≡ begun → Reached b (Ok (Going p))
 reached-first b R p e = rw e (first b R)
 
-module _ (b : List ℕ) (p : Progress) (N : Reached b p) where
+module _ (b : List ℕ) (s : State) (p : Progress) (N : Reached b (Ok s)) (e : s ≡ Going p) where
+  on : Reached b (Ok (Going p))
+  on = subst (λ (x : State). Reached b (Ok x)) e N
+
   pub reached-room : Room (length b)
-  reached-room = (running N).room
+  reached-room = (running on (Going p) refl).room
 
-  pub reached_ready : p.done ≡ false → Ready b p
-  reached_ready d = (running N).ready d
+  pub reached_ready : Ready b p
+  reached_ready = (running on (Going p) refl).ready
 
-  pub reached_on : p.done ≡ false → (b' : List ℕ) (r : Progress) → Stepped b p b' r → Reached b' r
-  reached_on d b' r S = next N d S
+  module _ (b' : List ℕ) (r : Result State Error) (S : Stepped b p b' r) where
+    pub reached_on : (x : State) → r ≡ Ok x → Reached b' (Ok x)
+    reached_on x h = subst (Reached b') h (next on S)
 
-  pub reached_done : Finished p
-  reached_done = record { buffer = b; reached = N }
+    pub reached_error : (x : Error) → r ≡ Err x → Finished (Err x)
+    reached_error x h = record { buffer = b'; reached = subst (Reached b') h (next on S) }
 
-pub finished : (p : Progress) → Finished p → p.done ≡ true → p.failed ≡ false → WholeLog p
-finished p f d g = (running f.reached).ended d g
+pub finished : (r : Result State Error) → Finished r → (s : State) → r ≡ Ok s → (o : Outcome) → s ≡ Over o → WholeLog o
+finished r f s e o h = (running f.reached (Over o) (e ∙ ap (λ (x : State). Ok x) h)).made
 
 -- ---- what a read comes to
 
-module _ (ended : Bool) (have due : ℕ) where
-  pub due_end : ended ≡ true → true ≡ is_due ended have due
-  due_end e = rw e
-
-  pub due_now : due ≤ have → true ≡ is_due ended have due
-  due_now l = rw (le-leb due have l) (sym (or_r ended true refl))
-
-  pub due_late : (most : ℕ) → most ≡ most_bytes most_edition → ended ≡ false → have < due → ltb most have ≡ is_due ended have due
-  due_late most e n l = rw (n, lt-leb due have l, e)
-
-module _ (b : List ℕ) (got : Got) (p : Progress) (f : got.failed ≡ false) (y : Bool) (d : y ≡ is_due got.ended got.have p.due) (r : Progress) where
-  pub read_due : JudgedHeld b got.have got.ended p r → y ≡ true → AfterRead b got p r
-  read_due H h = judging f (sym d ∙ h) H
-
-  pub read_held : r ≡ held_on got.have p → y ≡ false → AfterRead b got p r
-  read_held e h = keeping f (sym d ∙ h) e
-
-pub read_failed : (b : List ℕ) (got : Got) (p r : Progress) → r ≡ given_up p → got.failed ≡ true → AfterRead b got p r
-read_failed b got p r e f = unreadable f e
-
--- ---- the beginning
-
-pub begun_is : (t : Tally) → t ≡ zeros
-    → ◌≡◌ {A = Progress} (record { at = 0; have = 0; place = 0; tally = t; due = 0; done = false; failed = false; number = 0; end = 0 }) begun
-begun_is t e = rw e
+pub due_late : (ended : Bool) (have due most : ℕ) → most ≡ most_bytes most_edition → ended ≡ false → have < due → ltb most have ≡ is_due ended have due
+due_late ended have due most e n l = rw (n, lt-leb due have l, e)

@@ -1,6 +1,7 @@
 -- The bytes of an input that are kept in a buffer.
 -- Assumes nothing.
-use Rattle.std.specs.Prelude.{ℕ, ◌-◌, ◌≤◌, ◌≡◌, true, ◌&&◌, List, ◌++◌, eqb, length, take, drop}
+use Rattle.std.specs.Prelude.{ℕ, ◌+◌, ◌-◌, ◌≤◌, ◌≡◌, true, false, List, ◌++◌, eqb, length, take, drop, Result, IfOk}
+use Rattle.std.specs.declared.io.Error.{Error}
 use Rattle.stream.specs.declared.Got.{Got}
 
 -- the bytes from at up to have lie in a buffer of so many
@@ -16,15 +17,23 @@ kept b at have = take (have - at) (drop at b)
 abbrev pub moved_up : List ℕ → (at have : ℕ) → List ℕ
 moved_up b at have = kept b at have ++ drop (have - at) b
 
--- after a read that gave so many bytes, or that fault (1 interrupted, 2 failed)
-abbrev pub got_by : (have count fault : ℕ) → Got
-got_by have count fault = record { have = have; ended = eqb count 0 && eqb fault 0; failed = eqb fault 2 }
+-- after a read that gave so many bytes behind those
+abbrev pub got_by : (have count : ℕ) → Got
+got_by have count = record { have = have + count; ended = eqb count 0 }
 
--- after a read the buffer b' of the same size holds bytes up to r's, and those that were kept stand at its front. What was read stands
--- behind them; of that nothing is said. An input has ended only where no byte came
-pub record ReadOn (b : List ℕ) (at have : ℕ) (b' : List ℕ) (r : Got) : Type 0 where
+-- after a read that a signal interrupted
+abbrev pub interrupted : (have : ℕ) → Got
+interrupted have = record { have = have; ended = false }
+
+-- where a read behind so many bytes of a buffer did not fail, that buffer holds bytes up to g's. An input has ended only where no byte came
+pub record Behind (held room : ℕ) (g : Got) : Type 0 where
+  pub more : held ≤ g.have
+  pub inside : g.have ≤ room
+  pub none : g.ended ≡ true → g.have ≡ held
+
+-- after a read the buffer b' has the size of b, and those bytes that were kept stand at its front, also where the read failed. What was
+-- read stands behind them; of that nothing is said
+pub record ReadOn (b : List ℕ) (at have : ℕ) (b' : List ℕ) (r : Result Got Error) : Type 0 where
   pub room : length b' ≡ length b
   pub front : take (have - at) b' ≡ kept b at have
-  pub more : have - at ≤ r.have
-  pub inside : r.have ≤ length b
-  pub none : r.ended ≡ true → r.have ≡ have - at
+  pub got : IfOk r (Behind (have - at) (length b))
