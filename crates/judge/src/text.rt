@@ -34,7 +34,7 @@ pub fn say_printable(rt: &impl Print, text: &[u8])
     let _ = rt.write_all(text);
 }
 
-// What a refusal of a record's bytes means.
+// What a refusal of a record's bytes means. By its number and not by an enum: the answer, which C gets too, holds it so.
 pub fn refusal(number: u32) -> &'static str {
     match number {
         1 => "the bytes end inside a number or the name",
@@ -47,7 +47,7 @@ pub fn refusal(number: u32) -> &'static str {
     }
 }
 
-// What a broken rule means.
+// What a broken rule means, by its number likewise.
 pub fn rule(number: u32) -> &'static str {
     match number {
         11 => "(strict partial order): a thread's order is not irreflexive and transitive",

@@ -21,7 +21,8 @@ pub struct Progress {
     pub due: usize,
 }
 
-// What a log came to: its tally, and the refusal that ended it, at that place.
+// What a log came to: its tally, and the refusal that ended it, at that place. Its number stands as C gets it, 0 where the log ended
+// between records.
 #[derive(Clone, Copy)]
 pub struct Outcome {
     pub tally: Tally,
