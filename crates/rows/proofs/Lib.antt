@@ -1,6 +1,5 @@
 pub mod Loops
 pub mod SetLaws
 pub mod AsRules
-pub mod Visits
 pub mod Each
 pub mod Ranges

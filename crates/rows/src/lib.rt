@@ -2,10 +2,8 @@
 #![tactic(auto)]
 
 ghost use Rattle.std.specs.Prelude.{◌≡◌, true, not, ◌&&◌, ◌||◌, ℕ, ◌+◌, ◌-◌, ◌*◌, ◌<◌, ◌≤◌, eqb, ltb, get_or};
-ghost use Rattle.std.specs.Int.Bits.{bit_and};
-ghost use Rattle.std.specs.Int.Count.{count_trailing_zeros};
 ghost use Rattle.finite.specs.Tests.{some};
-ghost use Rattle.bits.specs.Bit.{bit, width};
+ghost use Rattle.bits.specs.Bit.{bit};
 ghost use Rattle.model.specs.Limits.{most_threads, most_addresses, most_events, most_dependencies};
 ghost use Rattle.rows.specs.Sets.{Set, Sets, row_in, order_in, set_in, light_in, depends_in};
 ghost use Rattle.rows.specs.May.{pairs};
@@ -64,21 +62,6 @@ pub fn minus(set: u64, other: u64) -> u64
     ensures { Set result (λ e. bit set e && not (bit other e)) }
 {
     set ^ (set & other)
-}
-
-// The first event of a set.
-pub fn lowest(set: u64) -> usize
-    ensures { result ≡ count_trailing_zeros width set }
-{
-    u64::trailing_zeros(set) as usize
-}
-
-// The set without its first event.
-pub fn but_lowest(set: u64) -> u64
-    requires { set ≡ 0 → ⊥ }
-    ensures { result ≡ bit_and set (set - 1) }
-{
-    set & (set - 1)
 }
 
 // What comes after some event of the set, in p's order.
