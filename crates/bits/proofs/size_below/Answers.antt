@@ -1,20 +1,14 @@
 -- `bits::size_below` meets its contract. Assumes nothing.
-use native.Mathlib.Omega.{arith}
 use mathlib.Core.Path.{ap, ◌∙◌}
 use mathlib.Core.Bool.{◌&&◌}
 use Prim.Native.Nat.{ℕ}
 use lib.Bits.{bit_and}
-use lib.Count.{ones-le}
 use lib.Dec.{ltb}
 use Rattle.finite.proofs.Tests.{count_same}
 use Rattle.bits.specs.Bit.{bit, width}
 use Rattle.bits.proofs.Bits.{bit_below}
 use Rattle.bits.proofs.Count.{ones_count, count-below}
 use Rattle.bits.proofs.size_below.Goals as goal
-
-pub overflow_cast-result : goal.overflow_cast-result
-overflow_cast-result c =
-    omega (arith, ones-le width c.both.result c.both.type_inv)
 
 pub returns : goal.returns
 returns c =
