@@ -24,6 +24,8 @@ fn front<const N: usize>(xs: &[u8; N], n: usize) -> [u8; N]
     out
 }
 
+// The loops below store by index: what iter_mut under zip has lent is not known to a proof afterwards.
+
 // Copies a thread's rows of k events, from a place on, to the front of out, each without what lies past the last event.
 fn copy_rows(rows: &[u64], from: usize, k: usize, out: &mut [u64])
     requires k_in_bounds { from + k ≤ length rows.now }

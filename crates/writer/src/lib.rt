@@ -19,7 +19,7 @@ use case::Case;
 #[derive(Clone, Copy, Debug, PartialEq, Eq)]
 pub struct NoRoom;
 
-// The row of event a in p's order.
+// The row of event a in p's order. Over the array and not the case, as in `count_pairs`: `compare` calls both with an array alone.
 pub fn row(rows: &[u64; Case::MOST_THREADS * Case::MOST_EVENTS], p: usize, a: usize) -> u64
     requires { (p < most_threads) × (a < most_events) }
     ensures { result ≡ get_or rows.now (p * most_events + a) 0 }
@@ -109,6 +109,8 @@ impl Sink for Writer<'_> {
 }
 
 // ---- the stages of the record
+// Each asks for `Sound` in a clause: a struct around the case with that fact would put its name before every field that a stage reads.
+// `as u32`: there is no From of usize for u32, and what is written is below 2^32.
 
 // Two numbers.
 fn put_two<S: Sink>(sink: &mut S, a: u32, b: u32)
