@@ -1,4 +1,5 @@
 // The coherence order of writes, held as the set of the writes before each.
+// The rows and how many of them count are two parameters and not a struct: such a struct would borrow the rows here, change them there, and own a copy elsewhere.
 #![tactic(auto)]
 
 ghost use Rattle.std.specs.Prelude.{◌≡◌, not, ◌&&◌, ◌||◌, ◌<◌, ◌≤◌, eqb, ltb, get_or, length};

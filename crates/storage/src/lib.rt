@@ -42,7 +42,7 @@ impl Storage {
     // each write and each barrier stands in a thread's list at most once
     pub const MOST_LISTED: usize = Storage::MOST_WRITES + Storage::MOST_BARRIERS;
 
-    // the classes of barriers
+    // the classes of barriers; numbers and not an enum, as the arrays of C hold any byte
     pub const SYNC: u8 = 0;
 
     pub const LWSYNC: u8 = 1;

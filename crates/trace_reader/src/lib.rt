@@ -276,6 +276,7 @@ fn counted(kind: Kind, which: Kind) -> usize
 }
 
 // Reads count steps into four arrays that hold zeros; gives where they end.
+// Arrays and not a Trace: the facts of the loop would have to say that the trace's other fields stay as they are.
 fn read_steps(
     bytes: &[u8],
     at: usize,

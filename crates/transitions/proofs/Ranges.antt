@@ -54,3 +54,6 @@ address_low {c} G l = let n = addresses-few c G in omega (arith, n)
 -- as a byte
 pub address-byte : {c : Held} {a : ℕ} → Good c → a < c.addresses → a < 256
 address-byte {c} G l = let n = addresses-few c G in omega (arith, n)
+
+-- what the check is given for the functions of a state
+pub ruleset ranges = (thread_low, write_low, write_narrow, barrier_low, writes_most, writes_narrow, entry_narrow, writer_low, owner_low, address_low, address-byte, threads-few, addresses-few, barriers-few)

@@ -64,6 +64,7 @@ fn unrelated(before: &[u64; Storage::MOST_WRITES], x: usize, y: usize) -> bool
     !bits::has(before[y], x) && !bits::has(before[x], y)
 }
 
+#[tactic(auto, using(crate::proofs::Ranges::ranges))]
 impl<'a> State<'a> {
     // The threads' lists.
     fn lists(&self) -> ThreadLists<'a>

@@ -3,32 +3,16 @@ use mathlib.Core.Path.{ap, ◌∙◌}
 use borrow.Author.Rules.{rules}
 use Rattle.storage_model.specs.Subsystem.{with_event}
 use Rattle.storage.specs.Held.{held, state_of, event_of}
-use Rattle.storage.proofs.Means.{threads-few, writes-few}
+use Rattle.storage.proofs.Means.{writes-few}
 use Rattle.transitions.proofs.Effects.{barrier-held}
 use Rattle.transitions.proofs.Room.{room_new}
 use Rattle.transitions.proofs.State.accept_barrier.Goals as goal
-
-pub append-out-requires-clause-t_lt_threads : goal.append-out-requires-clause-t_lt_threads
-append-out-requires-clause-t_lt_threads c =
-    let few = writes-few _ c.args.self.now.good in
-    let room = room_new _ c.args.self.now.good _ c.requires.1 (search (rules, few)) in
-    search (rules, room)
-
-pub append-out-requires-clause-x_lt_most_listed : goal.append-out-requires-clause-x_lt_most_listed
-append-out-requires-clause-x_lt_most_listed c =
-    let few = writes-few _ c.args.self.now.good in
-    let room = room_new _ c.args.self.now.good _ c.requires.1 (search (rules, few)) in
-    search (rules, room)
 
 pub append-out-requires-clause-t_bound : goal.append-out-requires-clause-t_bound
 append-out-requires-clause-t_bound c =
     let few = writes-few _ c.args.self.now.good in
     let room = room_new _ c.args.self.now.good _ c.requires.1 (search (rules, few)) in
     search (rules, room)
-
-pub overflow_cast-out : goal.overflow_cast-out
-overflow_cast-out c = let few =
-    threads-few _ c.args.self.now.good in search (rules, few)
 
 pub returns : goal.returns
 returns c =

@@ -1,10 +1,6 @@
 -- `transitions::State::arrived` meets its contract. Assumes nothing.
 use Rattle.transitions.proofs.Conditions.{here}
-use Rattle.transitions.proofs.Ranges.{thread_low}
 use Rattle.transitions.proofs.State.arrived.Goals as goal
-
-pub arrived-requires : goal.arrived-requires
-arrived-requires c = thread_low c.args.self.now.good c.requires
 
 pub returns : goal.returns
 returns c =

@@ -1,16 +1,6 @@
 -- `transitions::State::barriers_went_before` meets its contract. Assumes nothing.
-use borrow.Author.Rules.{rules}
 use Rattle.transitions.proofs.Conditions.{all_went}
-use Rattle.transitions.proofs.Ranges.{write_low, writer_low}
 use Rattle.transitions.proofs.State.barriers_went_before.Goals as goal
-
-pub bounds-c-w : goal.bounds-c-w
-bounds-c-w c =
-    search (rules, write_low)
-
-pub preceding-before-requires : goal.preceding-before-requires
-preceding-before-requires c =
-    search writer_low
 
 pub returns : goal.returns
 returns c =

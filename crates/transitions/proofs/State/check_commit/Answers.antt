@@ -1,23 +1,6 @@
 -- `transitions::State::check_commit` meets its contract. Assumes nothing.
 use Rattle.transitions.proofs.Commits.{two_addresses, related_already, makes_cycle, none-fails}
-use Rattle.transitions.proofs.Ranges.{write_low}
 use Rattle.transitions.proofs.State.check_commit.Goals as goal
-
-pub bounds-c-x : goal.bounds-c-x
-bounds-c-x c =
-    write_low c.args.self.now.good c.requires.x_lt_writes
-
-pub bounds-c-y : goal.bounds-c-y
-bounds-c-y c =
-    write_low c.args.self.now.good c.requires.y_lt_writes
-
-pub unrelated-requires-clause-x_lt_most_writes : goal.unrelated-requires-clause-x_lt_most_writes
-unrelated-requires-clause-x_lt_most_writes c =
-    write_low c.args.self.now.good c.requires.x_lt_writes
-
-pub unrelated-requires-clause-y_lt_most_writes : goal.unrelated-requires-clause-y_lt_most_writes
-unrelated-requires-clause-y_lt_most_writes c =
-    write_low c.args.self.now.good c.requires.y_lt_writes
 
 pub returns-then-c-x : goal.returns-then-c-x
 returns-then-c-x c =

@@ -1,15 +1,6 @@
 -- `transitions::State::check_propagate_barrier` meets its contract. Assumes nothing.
 use Rattle.transitions.proofs.Conditions.{barrier_there, barrier_goes, group_a-lacks}
-use Rattle.transitions.proofs.Ranges.{barrier_low, entry_narrow}
 use Rattle.transitions.proofs.State.check_propagate_barrier.Goals as goal
-
-pub barrier_entry-requires : goal.barrier_entry-requires
-barrier_entry-requires c =
-    barrier_low c.args.self.now.good c.requires.b_lt_barriers
-
-pub has-requires : goal.has-requires
-has-requires c =
-    entry_narrow c.args.self.now.good c.requires.b_lt_barriers c.barrier_entry.ensures
 
 pub returns-then-has : goal.returns-then-has
 returns-then-has c =

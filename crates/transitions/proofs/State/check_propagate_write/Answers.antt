@@ -1,11 +1,6 @@
 -- `transitions::State::check_propagate_write` meets its contract. Assumes nothing.
 use Rattle.transitions.proofs.Conditions.{there_already, not_after, not_fenced, write_goes}
-use Rattle.transitions.proofs.Ranges.{write_narrow}
 use Rattle.transitions.proofs.State.check_propagate_write.Goals as goal
-
-pub has-requires : goal.has-requires
-has-requires c =
-    write_narrow c.args.self.now.good c.requires.w_lt_writes
 
 pub returns-then-has : goal.returns-then-has
 returns-then-has c =

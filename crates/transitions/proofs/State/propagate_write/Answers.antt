@@ -1,14 +1,8 @@
 -- `transitions::State::propagate_write` meets its contract. Assumes nothing.
-use borrow.Author.Rules.{rules}
 use mathlib.Core.Path.{sym}
-use Rattle.storage.proofs.Means.{writes-few}
 use Rattle.transitions.proofs.Taken.{took_write}
 use Rattle.transitions.proofs.Room.{room-write}
 use Rattle.transitions.proofs.State.propagate_write.Goals as goal
-
-pub append-requires-clause-x_lt_most_listed : goal.append-requires-clause-x_lt_most_listed
-append-requires-clause-x_lt_most_listed c =
-    let few = writes-few _ c.args.self.now.good in search (rules, few)
 
 pub append-requires-clause-t_bound : goal.append-requires-clause-t_bound
 append-requires-clause-t_bound c =

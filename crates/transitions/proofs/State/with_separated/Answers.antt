@@ -1,35 +1,17 @@
 -- `transitions::State::with_separated` meets its contract. Assumes nothing.
-use native.Mathlib.Omega.{arith}
 use Rattle.storage.proofs.Means.{writer-within}
 use Rattle.transitions.proofs.Conditions.{once}
 use Rattle.transitions.proofs.Commits.{separates_begun, separates_one, separates_all}
-use Rattle.transitions.proofs.Ranges.{writer_low}
 use Rattle.transitions.proofs.State.with_separated.Goals as goal
 
 pub loop-b-init : goal.loop-b-init
 loop-b-init c =
     search separates_begun
 
-pub bounds-c-b : goal.bounds-c-b
-bounds-c-b c =
-    omega arith
-
 pub separated-requires-clause-once : goal.separated-requires-clause-once
 separated-requires-clause-once c =
     let e = once _ c.args.self.now.good _ (rw (c.from-t.ensures) (writer-within _ c.args.self.now.good _ c.loop-b-test.true)) in
     rw (c.lists-lists.ensures.listed, c.lists-lists.ensures.events) e
-
-pub separated-requires-clause-t_lt_most_threads : goal.separated-requires-clause-t_lt_most_threads
-separated-requires-clause-t_lt_most_threads c =
-    search writer_low
-
-pub bounds-out-b : goal.bounds-out-b
-bounds-out-b c =
-    omega arith
-
-pub bounds-out-b-in-loop-b : goal.bounds-out-b-in-loop-b
-bounds-out-b-in-loop-b c =
-    omega arith
 
 pub loop-b-preserved : goal.loop-b-preserved
 loop-b-preserved c =
