@@ -35,7 +35,7 @@ use Rattle.rules.specs.declared.Rule.{Rule}
 use Rattle.rules.specs.declared.Rule.TheVariants.{StrictOrder, OwnOrder, ProgramOrder, Coherence, EarlierStore, LatestStore, Barrier, CumulativeBarrier}
 use Rattle.rules.specs.Models.{model_of}
 use Rattle.rules.specs.Broken.{rule_number}
-use Rattle.rules.specs.Verdict.{Agrees, InRange, Sorted, Listed, Seen, Judged, shared_in, seen_in, judged_in, fresh_in, order_verdict, value_verdict, barrier_verdict, order_broken, value_broken, barrier_broken}
+use Rattle.rules.specs.Verdict.{Agrees, InRange, Sorted, Seen, Judged, shared_in, seen_in, judged_in, fresh_in, order_verdict, value_verdict, barrier_verdict, order_broken, value_broken, barrier_broken}
 use Rattle.rules.proofs.Means.{thread-in, address_in, value-in, initial_in, before_in, load_in, store-in, sync_in, barrier_in, of_in, depends-in, load_full, store-full, full-kind, twice_not, not-not}
 
 -- under a test
@@ -291,9 +291,6 @@ module _ (c : Held) (g : EventSets) (sound : Sound c) (agree : Agrees (case_of c
       turn true false h = refl
       turn false true h = refl
       turn false false h = refl
-
-  pub listed : Listed c.events g.stores g.partners c.address c.writes
-  listed = record { address = store-address; written = store-written }
 
   -- the verdict's parts, by rows and sets
   pub order_is : order_broken c.threads c.events g.own g.barriers g.stores g.partners g.dependents c.address c.writes c.rows ≡ order_verdict (case_of c)

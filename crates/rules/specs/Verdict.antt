@@ -1,11 +1,10 @@
 -- A struct's sets against the case that it means, and the parts of its verdict.
 -- Assumes nothing.
-use Rattle.std.specs.Prelude.{ℕ, ◌+◌, ◌*◌, ◌≤◌, ◌<◌, ◌≡◌, Bool, true, not, ◌&&◌, ◌||◌, List, eqb, ltb, get_or}
+use Rattle.std.specs.Prelude.{ℕ, ◌≤◌, ◌<◌, ◌≡◌, Bool, true, not, ◌&&◌, ◌||◌, List, eqb, ltb, get_or}
 use Rattle.std.specs.Int.Bits.{bit_or}
 use Rattle.bits.specs.Bit.{bit}
 use Rattle.model.specs.Case.{Case, load, store, sync}
 use Rattle.model.specs.Rules.{Model, of, is_load, is_store, is_sync, is_barrier, one_address, depends, seen, judged, or_else, rule11, rule12, rule13, rule14, rule15, rule16, rule17, rule18}
-use Rattle.finite.specs.Tests.{count}
 use Rattle.model.specs.Limits.{most_threads, most_addresses, most_events, most_dependencies}
 use Rattle.rows.specs.Sets.{Set, Sets, order_in, set_in, store_in, depends_in}
 use Rattle.rows.specs.May.{Relation, pairs, may11, may12, may13, may14, may15, may16, may17, may18}
@@ -47,11 +46,6 @@ pub record Sorted (k links : ℕ) (kinds threads addresses froms tos : List ℕ)
   pub own : Sets most_threads g.own (λ p e. ltb e k && eqb (get_or threads e 0) p)
   pub partners : Sets k g.partners (shared_in k (bit_or g.loads g.stores) addresses)
   pub dependents : Sets most_events g.dependents (depends_in froms tos links)
-
--- of a store among k, the stores to its address are listed in the write order: what their listing holds are events
-pub record Listed (k stores : ℕ) (partners addresses writes : List ℕ) : Type 0 where
-  pub address : (a : ℕ) → a < k → bit stores a ≡ true → get_or addresses a 0 < most_addresses
-  pub written : (a : ℕ) → a < k → bit stores a ≡ true → (i : ℕ) → i < count k (store_in stores partners a) → get_or writes (get_or addresses a 0 * most_events + i) 0 < k
 
 -- by thread, the sets are V(p)
 pub record Seen (c : Case) (sets : List ℕ) : Type 0 where

@@ -8,13 +8,13 @@ ghost use Rattle.model.specs.Limits.{most_threads, most_addresses, most_events};
 ghost use Rattle.model.specs.Rules.{verdict as verdict_of, finals as finals_of};
 ghost use Rattle.case.specs.Held.{case_of};
 ghost use Rattle.case.specs.Sound.{Sound};
-ghost use Rattle.rows.specs.Sets.{Set, Sets, order_in};
-ghost use Rattle.rows.specs.May.{may11};
-ghost use Rattle.by_columns.specs.Parts.{WithColumns, Shared};
+ghost use Rattle.rows.specs.Sets.{Set, Sets};
+ghost use Rattle.columns.specs.Columns.{Columns};
+ghost use Rattle.by_columns.specs.Parts.{WithColumns};
 ghost use Rattle.rules.specs.Finals.{stored_in, value_in, last_in, final_in};
 ghost use Rattle.rules.specs.Models.{Numbered, model_of};
 ghost use Rattle.rules.specs.Broken.{rule_number, verdict_number};
-ghost use Rattle.rules.specs.Verdict.{InRange, Sorted, Listed, shared_in, seen_in, chosen_in, judged_in, fresh_in, order_broken, value_broken, barrier_broken};
+ghost use Rattle.rules.specs.Verdict.{Agrees, shared_in, seen_in, chosen_in, judged_in, fresh_in, order_verdict, value_verdict, barrier_verdict};
 
 use case::Case;
 
@@ -95,28 +95,22 @@ fn sharing(addresses: &[u8; Case::MOST_EVENTS], k: usize, set: u64) -> [u64; Cas
     rows::by_event(&those, addresses, k, set)
 }
 
-// The sets of k events, by what a case's arrays hold.
-fn gather<'a>(
-    kinds: &'a [u8; Case::MOST_EVENTS],
-    threads: &'a [u8; Case::MOST_EVENTS],
-    addresses: &'a [u8; Case::MOST_EVENTS],
-    froms: &'a [u8; Case::MOST_DEPENDENCIES],
-    tos: &'a [u8; Case::MOST_DEPENDENCIES],
-    links: usize,
-    k: usize,
-) -> EventSets
-    requires { InRange k links kinds.now addresses.now froms.now tos.now }
-    ensures { Sorted k links kinds.now threads.now addresses.now froms.now tos.now result }
+// The sets of a case's events.
+fn gather(c: &Case) -> EventSets
+    requires { Sound c.now }
+    ensures { Agrees (case_of c.now) result }
 {
-    let loads = rows::labelled(kinds, k, Case::LOAD);
-    let stores = rows::labelled(kinds, k, Case::STORE);
-    let syncs = rows::labelled(kinds, k, Case::SYNC);
+    let k = c.events;
+    let links = case::link_count(c.edition, c.dependencies);
+    let loads = rows::labelled(&c.kind, k, Case::LOAD);
+    let stores = rows::labelled(&c.kind, k, Case::STORE);
+    let syncs = rows::labelled(&c.kind, k, Case::SYNC);
     let every = bits::below(k);
-    let own = rows::by_label(threads, k, every);
+    let own = rows::by_label(&c.thread, k, every);
     let accesses = loads | stores;
-    let partners = sharing(addresses, k, accesses);
+    let partners = sharing(&c.address, k, accesses);
     let barriers = rows::minus(every, accesses);
-    let dependents = rows::dependents(froms, tos, links);
+    let dependents = rows::dependents(&c.from, &c.to, links);
     EventSets {
         own,
         loads,
@@ -207,104 +201,138 @@ fn fresh_loads<'a>(
 {
     let mut found: u64 = 0;
     for l in 0..k {
-        found = found | fresh_load(loads, values, addresses, initial, l);
+        found |= fresh_load(loads, values, addresses, initial, l);
     }
     found
 }
 
-// The lowest broken of rules 11 to 14, if any.
-fn broken_order<'a>(
-    own: &'a [u64; Case::MOST_THREADS],
-    barriers: u64,
-    stores: u64,
-    partners: &'a [u64; Case::MOST_EVENTS],
-    dependents: &'a [u64; Case::MOST_EVENTS],
-    addresses: &'a [u8; Case::MOST_EVENTS],
-    writes: &'a [u8; Case::MOST_ADDRESSES * Case::MOST_EVENTS],
-    rows: &'a [u64; Case::MOST_THREADS * Case::MOST_EVENTS],
+// A case without fault, the sets of its events, and the columns of its orders.
+#[derive(Clone, Copy)]
+struct Gathered<'a> {
+    case: &'a Case,
+    sets: &'a EventSets,
     columns: &'a [u64; Case::MOST_THREADS * Case::MOST_EVENTS],
-    n: usize,
-    k: usize,
-) -> Result<(), Rule>
-    requires with_columns { WithColumns n k rows.now columns.now }
-    requires listed { Listed k stores partners.now addresses.now writes.now }
-    ensures { verdict_number result ≡ order_broken n k own.now barriers stores partners.now dependents.now addresses.now writes.now rows.now }
-{
-    if !one_order::rule11(rows, n, k) {
-        return Err(Rule::StrictOrder);
-    }
-    if !by_columns::rule12(own, rows, columns, n, k) {
-        return Err(Rule::OwnOrder);
-    }
-    if !orders::rule13(own, barriers, partners, dependents, rows, n, k) {
-        return Err(Rule::ProgramOrder);
-    }
-    if !orders::rule14(rows, stores, partners, addresses, writes, n, k) {
-        return Err(Rule::Coherence);
-    }
-    Ok(())
+    ghost sound: { Sound case.now },
+    ghost agrees: { Agrees (case_of case.now) sets.now },
+    ghost turned: { Columns case.now.threads case.now.events case.now.rows columns.now },
 }
 
-// The lowest broken of rules 15 and 16, if any.
-fn broken_value<'a>(
-    judged: &'a [u64; Case::MOST_THREADS],
-    seen: &'a [u64; Case::MOST_THREADS],
-    fresh: u64,
-    stores: u64,
-    partners: &'a [u64; Case::MOST_EVENTS],
-    values: &'a [u32; Case::MOST_EVENTS],
-    rows: &'a [u64; Case::MOST_THREADS * Case::MOST_EVENTS],
-    columns: &'a [u64; Case::MOST_THREADS * Case::MOST_EVENTS],
-    n: usize,
-    k: usize,
-) -> Result<(), Rule>
-    requires { WithColumns n k rows.now columns.now }
-    ensures { verdict_number result ≡ value_broken n k judged.now seen.now fresh stores partners.now values.now rows.now }
-{
-    if !by_columns::rule15(judged, fresh, stores, partners, rows, columns, n, k) {
-        return Err(Rule::EarlierStore);
+impl Gathered<'_> {
+    // The lowest broken of rules 11 to 14, if any.
+    fn check_order(&self) -> Result<(), Rule>
+        ensures { verdict_number result ≡ order_verdict (case_of self.now.case.now) }
+    {
+        let c = self.case;
+        let g = self.sets;
+        let n = c.threads;
+        let k = c.events;
+        if !one_order::rule11(&c.rows, n, k) {
+            return Err(Rule::StrictOrder);
+        }
+        if !by_columns::rule12(&g.own, &c.rows, self.columns, n, k) {
+            return Err(Rule::OwnOrder);
+        }
+        if !orders::rule13(
+            &g.own,
+            g.barriers,
+            &g.partners,
+            &g.dependents,
+            &c.rows,
+            n,
+            k,
+        ) {
+            return Err(Rule::ProgramOrder);
+        }
+        if !orders::rule14(&c.rows, g.stores, &g.partners, &c.address, &c.writes, n, k) {
+            return Err(Rule::Coherence);
+        }
+        Ok(())
     }
-    if !by_columns::rule16(judged, seen, stores, partners, values, rows, columns, n, k) {
-        return Err(Rule::LatestStore);
-    }
-    Ok(())
-}
 
-// The lowest broken of rules 17 and 18, if any, where rule 11 holds: if all threads' orders are alike, both do.
-fn broken_barrier<'a>(
-    own: &'a [u64; Case::MOST_THREADS],
-    barriers: u64,
-    syncs: u64,
-    stores: u64,
-    loads: u64,
-    partners: &'a [u64; Case::MOST_EVENTS],
-    threads: &'a [u8; Case::MOST_EVENTS],
-    rows: &'a [u64; Case::MOST_THREADS * Case::MOST_EVENTS],
-    columns: &'a [u64; Case::MOST_THREADS * Case::MOST_EVENTS],
-    n: usize,
-    k: usize,
-) -> Result<(), Rule>
-    requires with_columns { WithColumns n k rows.now columns.now }
-    requires shared { Shared n k partners.now threads.now }
-    requires le_n { 1 ≤ n }
-    requires rows_value { may11 n k (order_in rows.now) (order_in rows.now) ≡ true }
-    ensures { verdict_number result ≡ barrier_broken n k own.now barriers syncs stores loads partners.now threads.now rows.now }
-{
-    if one_order::alike(rows, n, k) {
-        return Ok(());
+    // Under a model, the lowest broken of rules 15 and 16, if any.
+    fn check_values(&self, model: Model) -> Result<(), Rule>
+        ensures { verdict_number result ≡ value_verdict (case_of self.now.case.now) (model_of model) }
+    {
+        let c = self.case;
+        let g = self.sets;
+        let n = c.threads;
+        let k = c.events;
+        let seen = seen_sets(&c.rows, self.columns, &g.own, n, k);
+        let judged = judged_sets(model, g.loads, &g.own, &seen, n);
+        let fresh = fresh_loads(g.loads, &c.value, &c.address, &c.initial, k);
+        if !by_columns::rule15(
+            &judged,
+            fresh,
+            g.stores,
+            &g.partners,
+            &c.rows,
+            self.columns,
+            n,
+            k,
+        ) {
+            return Err(Rule::EarlierStore);
+        }
+        if !by_columns::rule16(
+            &judged,
+            &seen,
+            g.stores,
+            &g.partners,
+            &c.value,
+            &c.rows,
+            self.columns,
+            n,
+            k,
+        ) {
+            return Err(Rule::LatestStore);
+        }
+        Ok(())
     }
-    let joined = one_order::joined(columns, n, k);
-    if !by_columns::rule17(
-        own, barriers, syncs, stores, loads, rows, columns, &joined, n, k,
-    ) {
-        return Err(Rule::Barrier);
+
+    // The lowest broken of rules 17 and 18, if any, where none of 11 to 14 is: if all threads' orders are alike, both hold.
+    fn check_barriers(&self) -> Result<(), Rule>
+        requires { order_verdict (case_of self.now.case.now) ≡ 0 }
+        ensures { verdict_number result ≡ barrier_verdict (case_of self.now.case.now) }
+    {
+        let c = self.case;
+        let g = self.sets;
+        let n = c.threads;
+        let k = c.events;
+        if one_order::alike(&c.rows, n, k) {
+            return Ok(());
+        }
+        let joined = one_order::joined(self.columns, n, k);
+        if !by_columns::rule17(
+            &g.own,
+            g.barriers,
+            g.syncs,
+            g.stores,
+            g.loads,
+            &c.rows,
+            self.columns,
+            &joined,
+            n,
+            k,
+        ) {
+            return Err(Rule::Barrier);
+        }
+        if !by_columns::rule18(
+            &g.own,
+            g.barriers,
+            g.syncs,
+            g.stores,
+            g.loads,
+            &g.partners,
+            &c.thread,
+            &c.rows,
+            self.columns,
+            &joined,
+            n,
+            k,
+        ) {
+            return Err(Rule::CumulativeBarrier);
+        }
+        Ok(())
     }
-    if !by_columns::rule18(
-        own, barriers, syncs, stores, loads, partners, threads, rows, columns, &joined, n, k,
-    ) {
-        return Err(Rule::CumulativeBarrier);
-    }
-    Ok(())
 }
 
 // Under a model, the lowest broken rule of the case, if any.
@@ -312,53 +340,17 @@ pub fn verdict(c: Case, model: Model) -> Result<(), Rule>
     requires { Sound c }
     ensures { verdict_number result ≡ verdict_of (case_of c) (model_of model) }
 {
-    let n = c.threads;
-    let k = c.events;
-    let links = case::link_count(c.edition, c.dependencies);
-    let g = gather(&c.kind, &c.thread, &c.address, &c.from, &c.to, links, k);
+    let sets = gather(&c);
     let mut columns = c.rows;
-    columns::to_columns(&mut columns, n, k);
-    broken_order(
-        &g.own,
-        g.barriers,
-        g.stores,
-        &g.partners,
-        &g.dependents,
-        &c.address,
-        &c.writes,
-        &c.rows,
-        &columns,
-        n,
-        k,
-    )?;
-    let seen = seen_sets(&c.rows, &columns, &g.own, n, k);
-    let judged = judged_sets(model, g.loads, &g.own, &seen, n);
-    let fresh = fresh_loads(g.loads, &c.value, &c.address, &c.initial, k);
-    broken_value(
-        &judged,
-        &seen,
-        fresh,
-        g.stores,
-        &g.partners,
-        &c.value,
-        &c.rows,
-        &columns,
-        n,
-        k,
-    )?;
-    broken_barrier(
-        &g.own,
-        g.barriers,
-        g.syncs,
-        g.stores,
-        g.loads,
-        &g.partners,
-        &c.thread,
-        &c.rows,
-        &columns,
-        n,
-        k,
-    )
+    columns::to_columns(&mut columns, c.threads, c.events);
+    let gathered = Gathered {
+        case: &c,
+        sets: &sets,
+        columns: &columns,
+    };
+    gathered.check_order()?;
+    gathered.check_values(model)?;
+    gathered.check_barriers()
 }
 
 // The value of event e, 0 if it is a barrier.

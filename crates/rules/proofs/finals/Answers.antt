@@ -1,6 +1,5 @@
 -- `rules::finals` meets its contract. Assumes nothing.
 use borrow.Author.Rules.{rules}
-use native.Mathlib.Omega.{arith}
 use mathlib.Core.Path.{◌∙◌}
 use Rattle.model.specs.Rules.{finals}
 use Rattle.rules.proofs.Last.{fill_none, fill_next, fill_all, listed_most, final-in}
@@ -25,16 +24,6 @@ pub final_value-requires-clause-j_bound : goal.final_value-requires-clause-j_bou
 unfolding finals
 final_value-requires-clause-j_bound c =
     listed_most c.args.c c.requires c.labelled-stores.ensures c.loop-x.x
-
-pub overflow_step-x : goal.overflow_step-x
-unfolding finals
-overflow_step-x c =
-    omega arith
-
-pub loop-x-smaller : goal.loop-x-smaller
-unfolding finals
-loop-x-smaller c =
-    omega arith
 
 pub loop-x-preserved : goal.loop-x-preserved
 unfolding finals

@@ -1,5 +1,4 @@
 -- `rules::finals` meets its contract. Assumes nothing.
-use Prim.Native.Nat.{◌-◌}
 use Rattle.model.specs.Limits.{most_addresses}
 use Rattle.model.specs.Rules.{final}
 use Rattle.case.specs.Held.{case_of}
@@ -8,6 +7,3 @@ use Rattle.rules.proofs.finals.Given as goal
 
 abbrev pub invariant-loop-x : goal.invariant-loop-x
 invariant-loop-x l = FilledBy most_addresses (final (case_of l.c)) l.x l.out
-
-abbrev pub decreases-loop-x : goal.decreases-loop-x
-decreases-loop-x l = most_addresses - l.x

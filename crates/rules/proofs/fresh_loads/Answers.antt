@@ -1,5 +1,4 @@
 -- `rules::fresh_loads` meets its contract. Assumes nothing.
-use native.Mathlib.Omega.{arith}
 use Rattle.rules.specs.Verdict.{fresh_in}
 use Rattle.rows.proofs.Loops.{empty, joins, united}
 use Rattle.rows.proofs.SetLaws.{set_same, some_only}
@@ -12,14 +11,6 @@ loop-l-init c =
 pub fresh_load-found-requires-clause-l_bound : goal.fresh_load-found-requires-clause-l_bound
 fresh_load-found-requires-clause-l_bound c =
     c.requires.by_index c.loop-l.l c.loop-l-test.true
-
-pub overflow_step-l : goal.overflow_step-l
-overflow_step-l c =
-    omega arith
-
-pub loop-l-smaller : goal.loop-l-smaller
-loop-l-smaller c =
-    omega arith
 
 pub loop-l-preserved : goal.loop-l-preserved
 loop-l-preserved c =

@@ -1,11 +1,7 @@
 -- `rules::judged_sets` meets its contract. Assumes nothing.
-use Prim.Native.Nat.{◌-◌}
 use Rattle.rules.specs.Verdict.{judged_in}
 use Rattle.rows.proofs.Loops.{Filled}
 use Rattle.rules.proofs.judged_sets.Given as goal
 
 abbrev pub invariant-loop-p : goal.invariant-loop-p
 invariant-loop-p l = Filled l.n (judged_in l.model l.loads l.own l.seen) l.p l.out
-
-abbrev pub decreases-loop-p : goal.decreases-loop-p
-decreases-loop-p l = l.n - l.p

@@ -1,6 +1,5 @@
 -- `rules::seen_sets` meets its contract. Assumes nothing.
 use borrow.Author.Rules.{rules}
-use native.Mathlib.Omega.{arith}
 use mathlib.Core.Path.{refl}
 use Rattle.rows.proofs.SetLaws.{either}
 use Rattle.rows.proofs.Loops.{unfilled, fills, filled}
@@ -9,14 +8,6 @@ use Rattle.rules.proofs.seen_sets.Goals as goal
 pub loop-p-init : goal.loop-p-init
 loop-p-init c =
     unfilled (search rules)
-
-pub overflow_step-p : goal.overflow_step-p
-overflow_step-p c =
-    omega arith
-
-pub loop-p-smaller : goal.loop-p-smaller
-loop-p-smaller c =
-    omega arith
 
 pub loop-p-preserved : goal.loop-p-preserved
 loop-p-preserved c =
