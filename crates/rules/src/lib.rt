@@ -354,62 +354,40 @@ pub fn verdict(c: Case, model: Model) -> Result<(), Rule>
 }
 
 // The value of event e, 0 if it is a barrier.
-fn value_at(kinds: &[u8; Case::MOST_EVENTS], values: &[u32; Case::MOST_EVENTS], e: usize) -> u32
+fn value_at(c: &Case, e: usize) -> u32
     requires { e < most_events }
-    ensures { result ≡ value_in kinds.now values.now e }
+    ensures { result ≡ value_in c.now.kind c.now.value e }
 {
-    if case::bare(kinds[e]) { 0 } else { values[e] }
+    if case::bare(c.kind[e]) { 0 } else { c.value[e] }
 }
 
 // The value of the last of i stores in the write order of address x, or else the initial value.
-fn last_value(
-    kinds: &[u8; Case::MOST_EVENTS],
-    values: &[u32; Case::MOST_EVENTS],
-    writes: &[u8; Case::MOST_ADDRESSES * Case::MOST_EVENTS],
-    initial: &[u32; Case::MOST_ADDRESSES],
-    x: usize,
-    i: usize,
-) -> u32
+fn last_value(c: &Case, x: usize, i: usize) -> u32
     requires x_lt_most_addresses { x < most_addresses }
     requires i_le_most_events { i ≤ most_events }
-    requires by_index { (j : ℕ) → j < i → get_or writes.now (x * most_events + j) 0 < most_events }
-    ensures { result ≡ last_in kinds.now values.now writes.now initial.now x i }
+    requires by_index { (j : ℕ) → j < i → get_or c.now.writes (x * most_events + j) 0 < most_events }
+    ensures { result ≡ last_in c.now.kind c.now.value c.now.writes c.now.initial x i }
 {
     if i == 0 {
-        initial[x]
+        c.initial[x]
     } else {
-        let e = writes[x * Case::MOST_EVENTS + (i - 1)] as usize;
-        value_at(kinds, values, e)
+        let e = c.writes[x * Case::MOST_EVENTS + (i - 1)] as usize;
+        value_at(c, e)
     }
 }
 
 // The final value of address x, 0 from the last address on.
-fn final_value<'a>(
-    kinds: &'a [u8; Case::MOST_EVENTS],
-    addresses: &'a [u8; Case::MOST_EVENTS],
-    values: &'a [u32; Case::MOST_EVENTS],
-    writes: &'a [u8; Case::MOST_ADDRESSES * Case::MOST_EVENTS],
-    initial: &'a [u32; Case::MOST_ADDRESSES],
-    stores: u64,
-    m: usize,
-    k: usize,
-    x: usize,
-) -> u32
-    requires k_le_most_events { k ≤ most_events }
+fn final_value(c: &Case, stores: u64, x: usize) -> u32
+    requires k_le_most_events { c.now.events ≤ most_events }
     requires x_lt_most_addresses { x < most_addresses }
-    requires j_bound { x < m → (j : ℕ) → j < count k (stored_in stores addresses.now x) → get_or writes.now (x * most_events + j) 0 < most_events }
-    ensures { result ≡ final_in m k stores kinds.now addresses.now values.now writes.now initial.now x }
+    requires j_bound { x < c.now.addresses → (j : ℕ) → j < count c.now.events (stored_in stores c.now.address x) → get_or c.now.writes (x * most_events + j) 0 < most_events }
+    ensures { result ≡ final_in c.now.addresses c.now.events stores c.now.kind c.now.address c.now.value c.now.writes c.now.initial x }
 {
+    let m = c.addresses;
+    let k = c.events;
     if x < m {
-        let those = bits::both(stores, rows::labelled(addresses, k, x as u8));
-        last_value(
-            kinds,
-            values,
-            writes,
-            initial,
-            x,
-            bits::size_below(those, k),
-        )
+        let those = bits::both(stores, rows::labelled(&c.address, k, x as u8));
+        last_value(c, x, bits::size_below(those, k))
     } else {
         0
     }
@@ -420,14 +398,10 @@ pub fn finals(c: Case) -> [u32; Case::MOST_ADDRESSES]
     requires { Sound c }
     ensures { result ≡ finals_of (case_of c) }
 {
-    let m = c.addresses;
-    let k = c.events;
-    let stores = rows::labelled(&c.kind, k, Case::STORE);
+    let stores = rows::labelled(&c.kind, c.events, Case::STORE);
     let mut out = [0u32; Case::MOST_ADDRESSES];
     for x in 0..Case::MOST_ADDRESSES {
-        out[x] = final_value(
-            &c.kind, &c.address, &c.value, &c.writes, &c.initial, stores, m, k, x,
-        );
+        out[x] = final_value(&c, stores, x);
     }
     out
 }

@@ -2,28 +2,18 @@
 --     bits::members_below(set, k).all(|e| ..)
 -- `serves_members` says that the closure may be called at each of them, and `all_members` what the call then gives.
 -- Assumes nothing.
-use Prim.Native.Nat.{ℕ, zero, suc, ◌+◌, ◌<◌}
-use native.Mathlib.Nat.{zero-add}
-use native.Mathlib.Numerals.{add-one}
-use native.Mathlib.Omega.{arith}
+use Prim.Native.Nat.{ℕ, ◌<◌}
 use denote.Param.Members.{Mut}
 use lib.Dec.{ltb}
 use mathlib.Core.Bool.{Bool, true, false, ◌&&◌}
-use mathlib.Core.List.{List, [], ◌∷◌, ◌++◌}
-use mathlib.Core.Path.{◌≡◌, refl, sym, ap, ap₂, ◌∙◌, subst}
+use mathlib.Core.List.{List, [], ◌∷◌}
+use mathlib.Core.Path.{◌≡◌, refl, sym, ap, ◌∙◌, subst}
 use borrow.Author.Tests.{ltb-true}
 use Rattle.std.specs.Prelude.{Option, None, Some, MatchOption}
-use Rattle.std.specs.declared.ops.Range.{Range}
 use Rattle.std.specs.Fn.{Called}
-use Rattle.std.specs.List.{FoldsTo, range_with_len, list_all}
+use Rattle.std.specs.List.{FoldsTo}
 use Rattle.std.specs.Iterator.{Yields, YieldsThen, CallableAtEachTurn}
-use Rattle.std.proofs.iter.Yields.{nat_range_steps}
 use Rattle.std.proofs.lemmas.Fn.{serves_by}
-use Rattle.std.proofs.lemmas.Iterator.{YieldsList-from_range}
-use Rattle.std.proofs.lemmas.Iterator.Search.{all_from_yields_List}
-use Rattle.std.proofs.lemmas.List.{map-id}
-use Rattle.std.proofs.lemmas.List.FromFn.{map-range_with_len_more}
-use Rattle.std.proofs.lemmas.List.Folds.{list_all-append}
 use Rattle.finite.specs.Tests.{all}
 use Rattle.finite.proofs.Tests.{and_l, and_r}
 use Rattle.bits.specs.Bit.{bit}
@@ -59,25 +49,3 @@ module _ (k set : ℕ) {F : Type 0} {g : Mut F (ℕ × Unit {0}) Bool} (p : ℕ 
       × MatchOption o (r ≡ true) (λ x. (r ≡ false) × ((h : F) × Called g j (x, tt) false h))
       → ((e : ℕ) → bit s e ≡ (bit set e && ltb e k)) → ((i : ℕ) → bit set i ≡ false → p i ≡ true) → r ≡ all k p
   all_members {s} (xs, o, j, y, c, m) below out = run xs s o f j refl (pass_first refl below out) y c m
-
--- ---- the same over the numbers below n, as
---     (0..n).all(|p| ..)
-and-true : (b : Bool) → (b && true) ≡ b
-and-true true = refl
-and-true false = refl
-
-range-more : (n : ℕ) → range_with_len 0 (n + 1) ≡ range_with_len 0 n ++ (n ∷ [])
-range-more n = rw (map-id (range_with_len 0 (n + 1)), map-id (range_with_len 0 n)) at (map-range_with_len_more (λ (x : ℕ). x) 0 n n (zero-add n))
-
-all-range : (n : ℕ) (p : ℕ → Bool) → list_all p (range_with_len 0 n) ≡ all n p
-unfolding all
-all-range zero p = refl
-all-range (suc n) p =
-    ap (λ (j : ℕ). list_all p (range_with_len 0 j)) (sym (add-one n)) ∙ ap (list_all p) (range-more n) ∙ list_all-append p (range_with_len 0 n) (n ∷ [])
-    ∙ ap₂ ◌&&◌ (all-range n p) (and-true (p n))
-
-pub all_range : {F : Type 0} {g : Mut F (ℕ × Unit {0}) Bool} {s : Range ℕ} {n : ℕ} (p : ℕ → Bool) (u : Range ℕ) (f : F) (r : Bool)
-    → (xs : List ℕ) × (o : Option ℕ) × (j : F) × YieldsThen nat_range_steps s xs o u × FoldsTo (λ q x v. Called g q (x, tt) true v) f xs j
-    × MatchOption o (r ≡ true) (λ x. (r ≡ false) × ((h : F) × Called g j (x, tt) false h))
-    → s ≡ record { start = 0; end = n } → ((x : ℕ) (b : Bool) (q : F) → Called g f (x, tt) b q → (q ≡ f) × (b ≡ p x)) → r ≡ all n p
-all_range {n = n} p u f r ran e told = all_from_yields_List p u f r ran (YieldsList-from_range 0 n n e (omega arith)) told ∙ all-range n p

@@ -7,11 +7,11 @@ use Rattle.bits.specs.Bit.{bit}
 use Rattle.rows.specs.Sets.{order_in, set_in, store_in}
 use Rattle.rows.specs.May.{may15}
 use Rattle.values.specs.Parts.{supplied}
-use Rattle.values.proofs.Members.{all_range}
+use Rattle.rows.proofs.Ranges.{all_below}
 use Rattle.by_columns.proofs.rule15.Goals as goal
 
 pub returns : goal.returns
 unfolding may15
 returns c =
     let a = c.args in
-    all_range (λ p. all a.k (supplied a.k (set_in a.judged.now p) (bit a.fresh) (store_in a.stores a.partners.now) (order_in a.rows.now p))) _ _ _ c.all.ensures.ran refl (λ x b q k. search (rules, tests))
+    all_below a.n (λ p. all a.k (supplied a.k (set_in a.judged.now p) (bit a.fresh) (store_in a.stores a.partners.now) (order_in a.rows.now p))) c.all.ensures.ran refl (λ x b q k. search (rules, tests))

@@ -22,8 +22,8 @@ value_at-requires c =
 
 pub returns-then-i-eq0 : goal.returns-then-i-eq0
 returns-then-i-eq0 c =
-    cond_yes (eqb c.args.i 0) (get_or c.args.initial.now c.args.x 0) (value_in c.args.kinds.now c.args.values.now (get_or c.args.writes.now (c.args.x * most_events + (c.args.i - 1)) 0)) (eq-eqb _ _ c.if-i-eq0.true)
+    cond_yes (eqb c.args.i 0) (get_or c.args.c.now.initial c.args.x 0) (value_in c.args.c.now.kind c.args.c.now.value (get_or c.args.c.now.writes (c.args.x * most_events + (c.args.i - 1)) 0)) (eq-eqb _ _ c.if-i-eq0.true)
 
 pub returns-else-i-eq0 : goal.returns-else-i-eq0
 returns-else-i-eq0 c =
-    c.value_at.ensures ∙ cond_no (eqb c.args.i 0) (get_or c.args.initial.now c.args.x 0) (value_in c.args.kinds.now c.args.values.now (get_or c.args.writes.now (c.args.x * most_events + (c.args.i - 1)) 0)) (ne_eqb _ _ c.if-i-eq0.false)
+    c.value_at.ensures ∙ cond_no (eqb c.args.i 0) (get_or c.args.c.now.initial c.args.x 0) (value_in c.args.c.now.kind c.args.c.now.value (get_or c.args.c.now.writes (c.args.x * most_events + (c.args.i - 1)) 0)) (ne_eqb _ _ c.if-i-eq0.false)

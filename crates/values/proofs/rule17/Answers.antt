@@ -7,11 +7,11 @@ use Rattle.bits.specs.Bit.{bit}
 use Rattle.rows.specs.Sets.{order_in, set_in, applicable_in}
 use Rattle.rows.specs.May.{may17}
 use Rattle.values.specs.Parts.{cumulative}
-use Rattle.values.proofs.Members.{all_range}
+use Rattle.rows.proofs.Ranges.{all_below}
 use Rattle.values.proofs.rule17.Goals as goal
 
 pub returns : goal.returns
 unfolding may17
 returns c =
     let a = c.args in
-    all_range (λ p. all a.k (cumulative a.k a.n (set_in a.own.now p) (bit a.barriers) (applicable_in a.syncs a.light.now) (order_in a.known.now p) (order_in a.asked.now))) _ _ _ c.all.ensures.ran refl (λ x b q k. search (rules, tests))
+    all_below a.n (λ p. all a.k (cumulative a.k a.n (set_in a.own.now p) (bit a.barriers) (applicable_in a.syncs a.light.now) (order_in a.known.now p) (order_in a.asked.now))) c.all.ensures.ran refl (λ x b q k. search (rules, tests))
