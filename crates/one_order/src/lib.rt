@@ -57,6 +57,7 @@ fn covered_order(rows: &[u64; Case::MOST_THREADS * Case::MOST_EVENTS], k: usize,
     requires p_lt_most_threads { p < most_threads }
     ensures { result ≡ all k (closed k (order_in rows.now p) (order_in rows.now p)) }
 {
+    // A loop and not `all`: a row's test promises a fact for either answer, not the value of a test.
     for a in 0..k {
         if !covered_row(rows, k, p, a) {
             return false;

@@ -307,6 +307,7 @@ pub fn dependents(
     ensures { Sets most_events result (depends_in froms.now tos.now count) }
 {
     let mut out = [0u64; Case::MOST_EVENTS];
+    // Two lists and not a list of pairs: so C's struct holds them.
     for i in 0..count {
         let from = usize::from(froms[i]);
         out[from] = bits::with(out[from], usize::from(tos[i]));
