@@ -1,17 +1,22 @@
 -- What the answers are, by what the calls inside told.
 -- Assumes nothing.
-use Prim.Native.Nat.{ℕ, zero, suc, ◌<◌}
+use Prim.Native.Nat.{ℕ, zero, suc}
 use mathlib.Core.Path.{◌≡◌, refl, sym, ap, ◌∙◌, subst}
 use mathlib.Core.Bool.{Bool, true, false, cond}
 use mathlib.Core.List.{List}
 use lib.Dec.{T, eqb}
+use borrow.Author.Tests.{ne_eqb}
 use lib.ListN.{length, replicate, length-replicate}
 use Rattle.finite.proofs.Tests.{true-T, and_left, and_right}
-use Rattle.number.specs.Reader.{Out, stop, next}
+use native.Mathlib.Omega.{arith}
+use Rattle.std.proofs.Common.{Ok, Err}
+use Rattle.number.specs.Reader.{Out, stop, next, number_of}
+use Rattle.number.specs.declared.Fault as a_fault
+use Rattle.number.specs.declared.Fault.TheVariants.{Ends, Form, Range, Turn, Unprintable}
+use Rattle.number.specs.declared.Refusal.{Refusal}
 use Rattle.permutation.specs.Permutation.{fits}
-use Rattle.model.specs.Limits.{most_addresses}
 use Rattle.model.specs.Case.{Case}
-use Rattle.model.specs.Rules.{Model, verdict}
+use Rattle.model.specs.Rules.{verdict}
 use Rattle.model.specs.Record.{read}
 use Rattle.model.specs.Written.{record_of}
 use Rattle.model.specs.Fault.{fault}
@@ -28,28 +33,32 @@ use Rattle.number.specs.Number.{splice, Bytes}
 use Rattle.model.specs.Fits.{Fits}
 use Rattle.laws.proofs.ExactCase.{readable}
 use Rattle.reader.specs.declared.Reading.{Reading}
-use Rattle.rules.specs.Verdict.{model_of}
+use Rattle.rules.specs.declared.Model.{Model as Given}
+use Rattle.rules.specs.Models.{model_of, model_number}
 use Rattle.litmus.proofs.Models.{some_model}
-use Rattle.reader.specs.Answers.{reading_of}
+use Rattle.reader.specs.Answers.{ReadingOf}
 use Rattle.reader.proofs.Found.{Found, case_is}
-use Rattle.answers.specs.declared.Answer.{Answer as Shown}
+use Rattle.answers.specs.declared.Cause.TheVariants.{Fault, NoFit}
 use Rattle.answers.specs.Shown.{shown}
-use Rattle.litmus.specs.declared.CaseAnswer.{CaseAnswer}
-use Rattle.litmus.specs.Shown.{case_shown}
+use Rattle.litmus.specs.Shown.{case_given, case_shown}
 
 -- a reading as the answer that callers get
-pub read_shown :
-    (o : Out Case) (r : Reading) → r ≡ reading_of o
-    → ◌≡◌ {A = CaseAnswer}
-    (record { answer = record { number = r.number; place = r.place; length = r.length; finals = replicate most_addresses 0 }; case = r.case }) (case_shown o)
-unfolding reading_of case_shown
-read_shown o r e = go o r e
-  where
-    go : (o : Out Case) (r : Reading) → r ≡ reading_of o
-        → ◌≡◌ {A = CaseAnswer}
-        (record { answer = record { number = r.number; place = r.place; length = r.length; finals = replicate most_addresses 0 }; case = r.case }) (case_shown o)
-    go (stop x p) r e = λ i. record { answer = record { number = (e i).number; place = (e i).place; length = (e i).length; finals = replicate most_addresses 0 }; case = (e i).case }
-    go (next c j) r e = λ i. record { answer = record { number = (e i).number; place = (e i).place; length = (e i).length; finals = replicate most_addresses 0 }; case = (e i).case }
+module _ (o : Out Case) where
+  pub read_shown : (r : Reading) → ReadingOf o (Ok r) → case_given (Ok r) ≡ case_shown o
+  unfolding case_shown
+  read_shown r R = rw R.is_read (λ i. record { answer = shown (done r.length); case = R.holds i })
+
+  pub read_missed : (e : Refusal) → ReadingOf o (Err e) → case_given (Err (record { cause = Fault e.fault; place = e.place })) ≡ case_shown o
+  unfolding case_shown
+  read_missed e h = rw h
+
+-- 0 is no fault
+fault_some : (f : a_fault.Fault) → number_of f ≡ 0 → ⊥
+fault_some Ends e = omega arith
+fault_some Form e = omega arith
+fault_some Range e = omega arith
+fault_some Turn e = omega arith
+fault_some Unprintable e = omega arith
 
 -- a case handed without bytes
 module _ (c : Case) where
@@ -57,9 +66,9 @@ module _ (c : Case) where
   unfolding handed
   handed_good e = rw e
 
-  pub handed_bad : (x : ℕ) → x ≡ fault c → (x ≡ 0 → ⊥) → handed c ≡ stop x 0
+  pub handed_bad : (f : a_fault.Fault) → number_of f ≡ fault c → handed c ≡ stop (number_of f) 0
   unfolding handed
-  handed_bad x e z = rw (← e) (by x z)
+  handed_bad f e = rw (← e) (by (number_of f) (fault_some f))
     where
       by : (x : ℕ) → (x ≡ 0 → ⊥) → faultless x (next c (length (record_of c))) ≡ stop x 0
       by zero z = absurd (z refl)
@@ -71,9 +80,9 @@ module _ (c : Case) (buffer : List ℕ) (at : ℕ) where
   unfolding write
   write_good e = sym (rw (handed_good c e))
 
-  pub write_bad : (x : ℕ) → x ≡ fault c → (x ≡ 0 → ⊥) → record { answer = refusal x 0; buffer = buffer } ≡ write c buffer at
+  pub write_bad : (f : a_fault.Fault) → number_of f ≡ fault c → record { answer = refusal (number_of f) 0; buffer = buffer } ≡ write c buffer at
   unfolding write
-  write_bad x e z = sym (rw (handed_bad c x e z))
+  write_bad f e = sym (rw (handed_bad c f e))
 
 -- a renumbering of a case that was read or handed
 module _ (c : Case) (F : Fits c) (q r : ℕ) (d : Held) (yes : fitting q r c ≡ true) (e : d ≡ held (renumber q r c)) where
@@ -100,25 +109,31 @@ renumber-out q r c i e = rw e
 pub renumber-not : (q r : ℕ) (c : Case) (i : ℕ) → fitting q r c ≡ false → renumber_out q r (next c i) ≡ stop 5 0
 renumber-not q r c i e = rw e
 
+-- renumbering a case
+module _ (c : Case) (q r : ℕ) (b : Bool) (e : b ≡ fitting q r c) (buffer : List ℕ) (at : ℕ) where
+  pub misfit : b ≡ false → put_out (renumber_out q r (next c 0)) buffer at ≡ record { answer = refusal 5 0; buffer = buffer }
+  misfit h = ap (λ (o : Out Case). put_out o buffer at) (renumber-not q r c 0 (sym e ∙ h))
+
+  pub fitted : b ≡ true → Fits c → (d : Held) → d ≡ held (renumber q r c) → put (record_of (case_of d)) buffer at ≡ put_out (renumber_out q r (next c 0)) buffer at
+  fitted h F d g =
+      ap (λ (x : Case). put (record_of x) buffer at) (renumbered_is c F q r d (sym e ∙ h) g)
+      ∙ sym (ap (λ (o : Out Case). put_out o buffer at) (renumber-out q r c 0 (sym e ∙ h)))
+
 -- renumbering a record, by what was read
 module _ (s : List ℕ) (R : Reading) (q r : ℕ) where
+  module _ (f : Found s R) where
+    pub found-fits : Fits (case_of R.case)
+    found-fits = subst Fits (sym (case_is f)) f.fits
+
+    pub renumber_done : (buffer : List ℕ) (at : ℕ) → put_out (renumber_out q r (next (case_of R.case) 0)) buffer at ≡ renumber_record q r s buffer at
+    unfolding renumber_record
+    renumber_done buffer at =
+        ap (λ (c : Case). put_out (renumber_out q r (next c R.length)) buffer at) (case_is f)
+        ∙ sym (ap (λ (o : Out Case). put_out (renumber_out q r o) buffer at) f.is_read)
+
   module _ (f : Found s R) (b : Bool) (e : b ≡ fitting q r (case_of R.case)) where
-    pub fits_is : fitting q r f.c ≡ b
+    fits_is : fitting q r f.c ≡ b
     fits_is = ap (fitting q r) (sym (case_is f)) ∙ sym e
-
-    module _ (yes : b ≡ true) (d : Held) (g : d ≡ held (renumber q r (case_of R.case))) where
-      told : d ≡ held (renumber q r f.c)
-      told = g ∙ ap (λ (c : Case). held (renumber q r c)) (case_is f)
-
-      pub relabelled_sound : Sound d
-      relabelled_sound = renumbered-sound f.c f.fits q r d (fits_is ∙ yes) told
-
-      pub renumber_done : (buffer : List ℕ) (at : ℕ) → put (record_of (case_of d)) buffer at ≡ renumber_record q r s buffer at
-      unfolding renumber_record
-      renumber_done buffer at =
-          ap (λ (c : Case). put (record_of c) buffer at) (renumbered_is f.c f.fits q r d (fits_is ∙ yes) told)
-          ∙ sym (ap (λ (o : Out Case). put_out (renumber_out q r o) buffer at) f.is_read
-          ∙ ap (λ (o : Out Case). put_out o buffer at) (renumber-out q r f.c R.length (fits_is ∙ yes)))
 
     pub renumber_misfit : b ≡ false → (buffer : List ℕ) (at : ℕ) → renumber_record q r s buffer at ≡ record { answer = refusal 5 0; buffer = buffer }
     unfolding renumber_record
@@ -141,10 +156,13 @@ module _ (s : List ℕ) (R : Reading) (q r : ℕ) where
         by true = refl
         by false = refl
 
-  pub renumber_missed : read s ≡ stop R.number R.place → (buffer : List ℕ) (at : ℕ)
-      → renumber_record q r s buffer at ≡ record { answer = refusal R.number R.place; buffer = buffer }
-  unfolding renumber_record
-  renumber_missed e buffer at = rw e
+pub renumber_missed : (s : List ℕ) (q r : ℕ) (e : Refusal) → ReadingOf (read s) (Err e) → (buffer : List ℕ) (at : ℕ)
+    → renumber_record q r s buffer at ≡ record { answer = refusal (number_of e.fault) e.place; buffer = buffer }
+unfolding renumber_record
+renumber_missed s q r e h buffer at = rw h
+
+pub missed_number : (s : List ℕ) (q r : ℕ) (e : Refusal) → ReadingOf (read s) (Err e) → (buffer : List ℕ) (at : ℕ) → eqb (renumber_record q r s buffer at).answer.number 0 ≡ false
+missed_number s q r e h buffer at = ap (λ (w : Stored). eqb w.answer.number 0) (renumber_missed s q r e h buffer at) ∙ ne_eqb (number_of e.fault) 0 (fault_some e.fault)
 
 -- renumbering a case handed without bytes
 module _ (c : Held) (q r : ℕ) where
@@ -156,62 +174,60 @@ module _ (c : Held) (q r : ℕ) where
     -- what is left is a struct d, whose record has the size n
     pub case_done :
         fitting q r (case_of c) ≡ true → (d : Held) → d ≡ held (renumber q r (case_of c)) → (n : ℕ) → n ≡ length (record_of (case_of d))
-        → (a : Shown) → a ≡ shown (done n) → ◌≡◌ {A = CaseAnswer} (record { answer = a; case = d }) (case_shown (renumber_case q r (case_of c)))
+        → case_given (Ok (record { case = d; length = n })) ≡ case_shown (renumber_case q r (case_of c))
     unfolding case_shown
-    case_done fit d e n l a g =
+    case_done fit d e n l =
         let long : n ≡ length (record_of (renumber q r (case_of c))) =
         l ∙ ap (λ (x : Case). length (record_of x)) (renumbered_is (case_of c) (fits-case c good) q r d fit e) in
-        rw (case_out _ (renumber-out q r (case_of c) (length (record_of (case_of c))) fit)) (λ i. record { answer = (g ∙ ap (λ (x : ℕ). shown (done x)) long) i; case = e i })
+        rw (case_out _ (renumber-out q r (case_of c) (length (record_of (case_of c))) fit)) (λ i. record { answer = shown (done (long i)); case = e i })
 
-    pub case_misfit : fitting q r (case_of c) ≡ false → case_shown (stop 5 0) ≡ case_shown (renumber_case q r (case_of c))
+    pub case_misfit : fitting q r (case_of c) ≡ false → case_given (Err (record { cause = NoFit; place = 0 })) ≡ case_shown (renumber_case q r (case_of c))
+    unfolding case_shown
     case_misfit e = sym (ap case_shown (case_out _ (renumber-not q r (case_of c) (length (record_of (case_of c))) e)))
 
-  pub case_faulty : (x : ℕ) → x ≡ fault (case_of c) → (x ≡ 0 → ⊥) → case_shown (stop x 0) ≡ case_shown (renumber_case q r (case_of c))
-  unfolding renumber_case
-  case_faulty x e z = sym (ap (λ (o : Out Case). case_shown (renumber_out q r o)) (handed_bad (case_of c) x e z))
+  pub case_faulty : (f : a_fault.Fault) → number_of f ≡ fault (case_of c) → case_given (Err (record { cause = Fault f; place = 0 })) ≡ case_shown (renumber_case q r (case_of c))
+  unfolding renumber_case case_shown
+  case_faulty f e = sym (ap (λ (o : Out Case). case_shown (renumber_out q r o)) (handed_bad (case_of c) f e))
 
 -- judging
-module _ (model : ℕ) (h : model < 2) where
-  abbrev named : Model
-  named = model_of (eqb model 1)
-
-  pub judge_done : (s : List ℕ) (R : Reading) → Found s R → judgement (case_of R.case) R.length (verdict (case_of R.case) named) ≡ judge model s
+module _ (model : ℕ) (m : Given) (h : model ≡ model_number m) where
+  pub judge_done : (s : List ℕ) (R : Reading) → Found s R → judgement (case_of R.case) R.length (verdict (case_of R.case) (model_of m)) ≡ judge model s
   unfolding judge
   judge_done s R f =
-      ap (λ (c : Case). judgement c R.length (verdict c named)) (case_is f)
-      ∙ sym (some_model (λ w. judge_out w (read s)) (refusal 7 0) model h ∙ ap (judge_out named) f.is_read)
+      ap (λ (c : Case). judgement c R.length (verdict c (model_of m))) (case_is f)
+      ∙ sym (some_model (λ w. judge_out w (read s)) (refusal 7 0) model m h ∙ ap (judge_out (model_of m)) f.is_read)
 
   pub judge_missed : (s : List ℕ) (x p : ℕ) → read s ≡ stop x p → refusal x p ≡ judge model s
   unfolding judge
-  judge_missed s x p e = sym (some_model (λ w. judge_out w (read s)) (refusal 7 0) model h ∙ ap (judge_out named) e)
+  judge_missed s x p e = sym (some_model (λ w. judge_out w (read s)) (refusal 7 0) model m h ∙ ap (judge_out (model_of m)) e)
 
-  pub judge_good : (c : Case) (n : ℕ) → n ≡ length (record_of c) → fault c ≡ 0 → judgement c n (verdict c named) ≡ judge_case model c
+  pub judge_good : (c : Case) (n : ℕ) → n ≡ length (record_of c) → fault c ≡ 0 → judgement c n (verdict c (model_of m)) ≡ judge_case model c
   unfolding judge_case
   judge_good c n l e =
-      ap (λ (x : ℕ). judgement c x (verdict c named)) l
-      ∙ sym (some_model (λ w. judge_out w (handed c)) (refusal 7 0) model h ∙ ap (judge_out named) (handed_good c e))
+      ap (λ (x : ℕ). judgement c x (verdict c (model_of m))) l
+      ∙ sym (some_model (λ w. judge_out w (handed c)) (refusal 7 0) model m h ∙ ap (judge_out (model_of m)) (handed_good c e))
 
-  pub judge_bad : (c : Case) (x : ℕ) → x ≡ fault c → (x ≡ 0 → ⊥) → refusal x 0 ≡ judge_case model c
+  pub judge_bad : (c : Case) (f : a_fault.Fault) → number_of f ≡ fault c → refusal (number_of f) 0 ≡ judge_case model c
   unfolding judge_case
-  judge_bad c x e z = sym (some_model (λ w. judge_out w (handed c)) (refusal 7 0) model h ∙ ap (judge_out named) (handed_bad c x e z))
+  judge_bad c f e = sym (some_model (λ w. judge_out w (handed c)) (refusal 7 0) model m h ∙ ap (judge_out (model_of m)) (handed_bad c f e))
 
 -- a condition, by what is read or handed
-module _ (model : ℕ) (h : model < 2) (text : List ℕ) where
-  under-model : (o o' : Out Case) → o' ≡ o → condition_out (model_of (eqb model 1)) text o ≡ under_model model (λ w. condition_out w text o') (without (refusal 7 0))
-  under-model o o' e = sym (some_model (λ w. condition_out w text o') (without (refusal 7 0)) model h ∙ ap (condition_out (model_of (eqb model 1)) text) e)
+module _ (model : ℕ) (m : Given) (h : model ≡ model_number m) (text : List ℕ) where
+  under-model : (o o' : Out Case) → o' ≡ o → condition_out (model_of m) text o ≡ under_model model (λ w. condition_out w text o') (without (refusal 7 0))
+  under-model o o' e = sym (some_model (λ w. condition_out w text o') (without (refusal 7 0)) model m h ∙ ap (condition_out (model_of m) text) e)
 
-  pub condition_done : (s : List ℕ) (R : Reading) → Found s R → condition_out (model_of (eqb model 1)) text (next (case_of R.case) R.length) ≡ condition model s text
+  pub condition_done : (s : List ℕ) (R : Reading) → Found s R → condition_out (model_of m) text (next (case_of R.case) R.length) ≡ condition model s text
   unfolding condition
-  condition_done s R f = ap (λ (c : Case). condition_out (model_of (eqb model 1)) text (next c R.length)) (case_is f) ∙ under-model _ (read s) f.is_read
+  condition_done s R f = ap (λ (c : Case). condition_out (model_of m) text (next c R.length)) (case_is f) ∙ under-model _ (read s) f.is_read
 
   pub condition_missed : (s : List ℕ) (x p : ℕ) → read s ≡ stop x p → without (refusal x p) ≡ condition model s text
   unfolding condition
   condition_missed s x p e = under-model (stop x p) (read s) e
 
-  pub condition_good : (c : Case) (n : ℕ) → n ≡ length (record_of c) → fault c ≡ 0 → condition_out (model_of (eqb model 1)) text (next c n) ≡ condition_case model c text
+  pub condition_good : (c : Case) (n : ℕ) → n ≡ length (record_of c) → fault c ≡ 0 → condition_out (model_of m) text (next c n) ≡ condition_case model c text
   unfolding condition_case
   condition_good c n l e = under-model (next c n) (handed c) (handed_good c e ∙ ap (next c) (sym l))
 
-  pub condition_bad : (c : Case) (x : ℕ) → x ≡ fault c → (x ≡ 0 → ⊥) → without (refusal x 0) ≡ condition_case model c text
+  pub condition_bad : (c : Case) (f : a_fault.Fault) → number_of f ≡ fault c → without (refusal (number_of f) 0) ≡ condition_case model c text
   unfolding condition_case
-  condition_bad c x e z = under-model (stop x 0) (handed c) (handed_bad c x e z)
+  condition_bad c f e = under-model (stop (number_of f) 0) (handed c) (handed_bad c f e)

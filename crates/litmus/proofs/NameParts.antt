@@ -1,6 +1,6 @@
 -- Where names lie: the parts beside judging and renumbering name the bytes that the model gives.
 -- Assumes nothing.
-use Prim.Native.Nat.{ℕ, zero, suc, ◌≤◌, ◌<◌}
+use Prim.Native.Nat.{ℕ, zero, suc, ◌<◌}
 use mathlib.Core.Path.{◌≡◌, refl, sym, ap, ◌∙◌}
 use mathlib.Core.Bool.{true, false}
 use mathlib.Core.List.{List}
@@ -9,6 +9,8 @@ use lib.Dec.{eqb}
 use lib.ListN.{replicate}
 use Rattle.model.specs.Record.{read}
 use Rattle.model.specs.Answers.{name, name_under, judged_name, renumbered_name, renumber_record}
+use Rattle.rules.specs.declared.Model.{Model}
+use Rattle.rules.specs.Models.{model_number}
 use Rattle.litmus.specs.declared.Part.{Part}
 use Rattle.litmus.specs.Shown.{part_shown, no_part, part_under, bytes_of, judged_part, renumbered_part}
 use Rattle.litmus.proofs.Models.{no_model, either_model}
@@ -30,13 +32,13 @@ module _ (model : ℕ) (s : List ℕ) where
       by (suc (suc x)) = refl
 
   module _ {p : Part} where
-    pub judged-none : 2 ≤ model → p ≡ no_part → p ≡ judged_part model s
+    pub judged-none : 1 < model → p ≡ no_part → p ≡ judged_part model s
     unfolding judged_part
     judged-none h e = e ∙ sym (no_model _ _ model h)
 
-    pub judged-part : model < 2 → p ≡ part_shown (read s) → p ≡ judged_part model s
+    pub judged-part : (m : Model) → model ≡ model_number m → p ≡ part_shown (read s) → p ≡ judged_part model s
     unfolding judged_part
-    judged-part h e = e ∙ sym (either_model _ _ model _ h (λ w. refl))
+    judged-part m h e = e ∙ sym (either_model _ _ model _ m h (λ w. refl))
 
     pub judged_both : p ≡ judged_part model s → (p ≡ judged_part model s) × (bytes_of s p ≡ judged_name model s)
     judged_both e = (e, ap (bytes_of s) e ∙ judged-bytes)

@@ -1,13 +1,18 @@
 -- The model's answers as the structs that callers get.
 -- Assumes nothing.
-use Rattle.std.specs.Prelude.{ℕ, zero, suc, List, take, drop, replicate}
+use Rattle.std.specs.Prelude.{ℕ, zero, suc, ◌<◌, ◌≡◌, List, take, drop, replicate, Result, Ok, Err, MatchResult}
 use Rattle.number.specs.Reader.{Out, stop, next}
 use Rattle.model.specs.Case.{Case}
 use Rattle.model.specs.Record.{read}
-use Rattle.model.specs.Answers.{answer_of, name_part, under_model, renumber_record}
+use Rattle.model.specs.Answers.{done, answer_of, name_part, under_model, renumber_record}
 use Rattle.case.specs.declared.Case.{Case as Held}
 use Rattle.case.specs.Held.{held, empty_case}
-use Rattle.answers.specs.Shown.{shown}
+use Rattle.reader.specs.declared.Reading.{Reading}
+use Rattle.rules.specs.declared.Model.{Model}
+use Rattle.rules.specs.Models.{model_number}
+use Rattle.answers.specs.declared.Refused.{Refused}
+use Rattle.answers.specs.declared.Cause.TheVariants.{NoModel}
+use Rattle.answers.specs.Shown.{shown, refusal_of}
 use Rattle.litmus.specs.declared.CaseAnswer.{CaseAnswer}
 use Rattle.litmus.specs.declared.Part.{Part}
 
@@ -15,6 +20,15 @@ use Rattle.litmus.specs.declared.Part.{Part}
 abbrev pub case_in : Out Case → Held
 case_in (stop x p) = empty_case
 case_in (next c i) = held c
+
+-- the model with a number, or 7
+abbrev pub ModelOf : ℕ → Result Model Refused → Type 0
+ModelOf n r = MatchResult r (λ model. n ≡ model_number model) (λ e. (1 < n) × (e ≡ record { cause = NoModel; place = 0 }))
+
+-- what the code answers where a case is given with the length of its record, or refused
+abbrev pub case_given : Result Reading Refused → CaseAnswer
+case_given (Ok r) = record { answer = shown (done r.length); case = r.case }
+case_given (Err e) = record { answer = shown (refusal_of e); case = empty_case }
 
 unfoldable pub case_shown : Out Case → CaseAnswer
 case_shown o = record { answer = shown (answer_of o); case = case_in o }

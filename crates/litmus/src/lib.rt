@@ -5,11 +5,13 @@ ghost use Rattle.std.specs.Prelude.{◌≡◌, true, eqb, replicate};
 ghost use Rattle.permutation.specs.Permutation.{composite as composite_of, inverse as inverse_of, fits as fits_of};
 ghost use Rattle.model.specs.Rules.{or_else};
 ghost use Rattle.model.specs.Record.{read as read_record};
-ghost use Rattle.model.specs.Answers.{answer_of, judge as judge_record, judge_case, write as write_case, renumber_record, renumber_case, name as name_of, judged_name, renumbered_name, room_in};
-ghost use Rattle.number.specs.Reader.{stop};
+ghost use Rattle.model.specs.Answers.{answer_of, judge as judge_record, judge_case, write as write_case, put_out, renumber_out, renumber_record, renumber_case, name as name_of, judged_name, renumbered_name, room_in};
+ghost use Rattle.number.specs.Reader.{next};
 ghost use Rattle.model.specs.Renumber.{fitting as fitting_of};
+ghost use Rattle.model.specs.Fits.{Fits};
 ghost use Rattle.case.specs.Held.{case_of};
-ghost use Rattle.answers.specs.Shown.{shown};
+ghost use Rattle.case.specs.Sound.{Sound};
+ghost use Rattle.answers.specs.Shown.{shown, given};
 ghost use Rattle.classes.specs.Representative.{representative_record, representative_case, choice as choice_of, lesser as lesser_of};
 ghost use Rattle.representatives.specs.Shown.{choice_shown};
 ghost use Rattle.log_model.specs.Pieces.{judge_log};
@@ -17,20 +19,23 @@ ghost use Rattle.log_pieces.specs.Shown.{answer_shown};
 ghost use Rattle.area_model.specs.Area.{frame_at, append as append_area, repair as repair_area};
 ghost use Rattle.area.specs.Shown.{frame_shown};
 ghost use Rattle.condition_model.specs.Answers.{condition as condition_of, condition_case};
-ghost use Rattle.condition.specs.Shown.{condition_shown};
+ghost use Rattle.condition.specs.Shown.{condition_shown, condition_given};
 ghost use Rattle.storage_model.specs.Layout.{read_trace};
 ghost use Rattle.storage_model.specs.Answers.{judge_trace};
 ghost use Rattle.trace_reader.specs.Held.{reading_shown};
 ghost use Rattle.traces.specs.Shown.{trace_shown};
-ghost use Rattle.litmus.specs.Shown.{case_shown, part_shown, no_part, judged_part, renumbered_part, bytes_of};
+ghost use Rattle.litmus.specs.Shown.{ModelOf, case_given, case_shown, part_shown, no_part, judged_part, renumbered_part, bytes_of};
 ghost use Rattle.litmus.specs.Orders.{too_many, rule11_answer};
 
 pub use answers::Answer;
+use answers::{Cause, Refused};
 pub use area::Frame;
 use case::Case;
 pub use condition::ConditionAnswer;
 pub use log_pieces::{JudgedLog, LogAnswer, judge_log, judged_part};
+use reader::Reading;
 pub use representatives::Choice;
+use rules::Model;
 pub use storage::Storage;
 pub use tally::Tally;
 pub use trace_reader::{Trace, TraceReading};
@@ -52,61 +57,75 @@ pub struct Part {
     pub length: usize,
 }
 
-// The numbers of a model that is none, of a permutation that does not fit, of a count above its most and of a broken rule 11, and
-// how many models there are.
-const NO_MODEL: u8 = 7;
-
-const NO_FIT: u8 = 5;
-
+// The numbers of a count above its most and of a broken rule 11.
 const TOO_MANY: u32 = 3;
 
 const NOT_TRANSITIVE: u32 = 11;
 
-const MODELS: u64 = 2;
+// The model with this number.
+fn model_of(number: u64) -> Result<Model, Refused>
+    ensures { ModelOf number result }
+{
+    Ok(Model::try_from(number)?)
+}
+
+// What a call answers that gives a case and the length of its record.
+fn case_answer(reading: Result<Reading, Refused>) -> CaseAnswer
+    ensures { result ≡ case_given reading }
+{
+    match reading {
+        Ok(reading) => CaseAnswer {
+            answer: answers::finished(reading.length),
+            case: reading.case,
+        },
+        Err(e) => CaseAnswer {
+            answer: Answer::from(e),
+            case: Case::empty(),
+        },
+    }
+}
 
 // Reads a record: 0, its length and its case, or 1 to 4 or 23 and the place.
 pub fn read(bytes: &[u8]) -> CaseAnswer
     ensures { result ≡ case_shown (read_record bytes.now) }
 {
-    let reading = reader::read_case(bytes);
-    let answer = Answer {
-        number: reading.number as u32,
-        place: reading.place,
-        length: reading.length,
-        finals: [0u32; Case::MOST_ADDRESSES],
-    };
-    let case = reading.case;
-    CaseAnswer { answer, case }
+    case_answer(read_record(bytes))
+}
+
+fn read_record(bytes: &[u8]) -> Result<Reading, Refused>
+    ensures { case_given result ≡ case_shown (read_record bytes.now) }
+{
+    Ok(reader::read_case(bytes)?)
 }
 
 // Judges a record under model 0 (PPCw) or 1 (PPCs): 7 for any other; the record's 1 to 4 or 23; 11 to 18; or 0 with the finals.
 pub fn judge(bytes: &[u8], model: u64) -> Answer
     ensures { result ≡ shown (judge_record model bytes.now) }
 {
-    if MODELS <= model {
-        return answers::refused(NO_MODEL, 0);
-    }
-    let reading = reader::read_case(bytes);
-    if reading.number == 0 {
-        let case = reading.case;
-        return answers::judged(case, reading.length, model == 1);
-    }
-    answers::refused(reading.number, reading.place)
+    answers::given(judge_record(bytes, model))
+}
+
+fn judge_record(bytes: &[u8], model: u64) -> Result<Answer, Refused>
+    ensures { given result ≡ shown (judge_record model bytes.now) }
+{
+    let model = model_of(model)?;
+    let reading = reader::read_case(bytes)?;
+    Ok(answers::judged(reading.case, reading.length, model))
 }
 
 // The same of a case: 3, 4 or 23 with place 0 where a field of it is bad. The length is that of its record.
 pub fn judge_case(c: Case, model: u64) -> Answer
     ensures { result ≡ shown (judge_case model (case_of c)) }
 {
-    if MODELS <= model {
-        return answers::refused(NO_MODEL, 0);
-    }
-    let fault = case::fault(c);
-    if fault == 0 {
-        let length = writer::size(c);
-        return answers::judged(c, length, model == 1);
-    }
-    answers::refused(fault, 0)
+    answers::given(judge_held(c, model))
+}
+
+fn judge_held(c: Case, model: u64) -> Result<Answer, Refused>
+    ensures { given result ≡ shown (judge_case model (case_of c)) }
+{
+    let model = model_of(model)?;
+    case::check(c)?;
+    Ok(answers::judged(c, writer::size(c), model))
 }
 
 // Whether a condition in text holds for a record under a model: `judge`'s answer where its number isn't 0; the text's 3, 21 or 22 and the place in it; or
@@ -114,30 +133,30 @@ pub fn judge_case(c: Case, model: u64) -> Answer
 pub fn condition(bytes: &[u8], model: u64, text: &[u8]) -> ConditionAnswer
     ensures { result ≡ condition_shown (condition_of model bytes.now text.now) }
 {
-    if MODELS <= model {
-        return condition::refused(NO_MODEL, 0);
-    }
-    let reading = reader::read_case(bytes);
-    if reading.number == 0 {
-        let case = reading.case;
-        return condition::asked(case, reading.length, model == 1, text);
-    }
-    condition::refused(reading.number, reading.place)
+    condition::given(condition_record(bytes, model, text))
+}
+
+fn condition_record(bytes: &[u8], model: u64, text: &[u8]) -> Result<ConditionAnswer, Refused>
+    ensures { condition_given result ≡ condition_shown (condition_of model bytes.now text.now) }
+{
+    let model = model_of(model)?;
+    let reading = reader::read_case(bytes)?;
+    Ok(condition::asked(reading.case, reading.length, model, text))
 }
 
 // The same of a case: `judge_case`'s answer where its number isn't 0.
 pub fn condition_case(c: Case, model: u64, text: &[u8]) -> ConditionAnswer
     ensures { result ≡ condition_shown (condition_case model (case_of c) text.now) }
 {
-    if MODELS <= model {
-        return condition::refused(NO_MODEL, 0);
-    }
-    let fault = case::fault(c);
-    if fault == 0 {
-        let length = writer::size(c);
-        return condition::asked(c, length, model == 1, text);
-    }
-    condition::refused(fault, 0)
+    condition::given(condition_held(c, model, text))
+}
+
+fn condition_held(c: Case, model: u64, text: &[u8]) -> Result<ConditionAnswer, Refused>
+    ensures { condition_given result ≡ condition_shown (condition_case model (case_of c) text.now) }
+{
+    let model = model_of(model)?;
+    case::check(c)?;
+    Ok(condition::asked(c, writer::size(c), model, text))
 }
 
 // Reads a trace: 0, its length and its steps, or 1 to 3 and the place.
@@ -160,21 +179,17 @@ pub fn write(c: Case, out: &mut [u8], at: usize) -> Answer
     ensures value { result ≡ shown (write_case (case_of c) out.old at).answer }
     ensures out_after { out.new ≡ (write_case (case_of c) out.old at).buffer }
 {
-    let fault = case::fault(c);
-    if fault == 0 {
-        return answers::put(c, out, at);
+    match case::check(c) {
+        Ok(()) => answers::put(c, out, at),
+        Err(fault) => Answer::from(Refused::from(fault)),
     }
-    answers::refused(fault, 0)
 }
 
 // Whether q maps the case's threads onto themselves, and r its addresses.
 fn fitting(c: Case, q: u64, r: u64) -> bool
     ensures { result ≡ fitting_of q r (case_of c) }
 {
-    if fits(q, c.threads) {
-        return fits(r, c.addresses);
-    }
-    false
+    fits(q, c.threads) && fits(r, c.addresses)
 }
 
 // Renumbers a record, threads by the permutation q and addresses by r, into another buffer from a place on: the record's
@@ -183,40 +198,44 @@ pub fn renumber(bytes: &[u8], q: u64, r: u64, out: &mut [u8], at: usize) -> Answ
     ensures value { result ≡ shown (renumber_record q r bytes.now out.old at).answer }
     ensures out_after { out.new ≡ (renumber_record q r bytes.now out.old at).buffer }
 {
-    let reading = reader::read_case(bytes);
-    if reading.number == 0 {
-        let case = reading.case;
-        if fitting(case, q, r) {
-            return answers::put(relabel::relabel(case, q as usize, r as usize), out, at);
-        }
-        return answers::refused(NO_FIT, 0);
+    match reader::read_case(bytes) {
+        Ok(reading) => renumber_read(reading.case, q, r, out, at),
+        Err(e) => Answer::from(Refused::from(e)),
     }
-    answers::refused(reading.number, reading.place)
+}
+
+// The same of a case that was read.
+fn renumber_read(case: Case, q: u64, r: u64, out: &mut [u8], at: usize) -> Answer
+    requires sound { Sound case }
+    requires fits { Fits (case_of case) }
+    ensures value { result ≡ shown (put_out (renumber_out q r (next (case_of case) 0)) out.old at).answer }
+    ensures out_after { out.new ≡ (put_out (renumber_out q r (next (case_of case) 0)) out.old at).buffer }
+{
+    if !fitting(case, q, r) {
+        return Answer::from(Refused::from(Cause::NoFit));
+    }
+    answers::put(relabel::relabel(case, q as usize, r as usize), out, at)
 }
 
 // Renumbers a case: 3, 4 or 23 with place 0 for a bad field; 5; or 0, the length of its record and the case.
 pub fn renumber_case(c: Case, q: u64, r: u64) -> CaseAnswer
     ensures { result ≡ case_shown (renumber_case q r (case_of c)) }
 {
-    let fault = case::fault(c);
-    if fault == 0 {
-        if fitting(c, q, r) {
-            let case = relabel::relabel(c, q as usize, r as usize);
-            let answer = answers::finished(writer::size(case));
-            return CaseAnswer { answer, case };
-        }
-        return no_case(NO_FIT);
-    }
-    no_case(fault)
+    case_answer(renumber_held(c, q, r))
 }
 
-// A refusal with place 0, and the empty case.
-fn no_case(number: u8) -> CaseAnswer
-    ensures { result ≡ case_shown (stop number 0) }
+fn renumber_held(c: Case, q: u64, r: u64) -> Result<Reading, Refused>
+    ensures { case_given result ≡ case_shown (renumber_case q r (case_of c)) }
 {
-    let answer = answers::refused(number, 0);
-    let case = Case::empty();
-    CaseAnswer { answer, case }
+    case::check(c)?;
+    if !fitting(c, q, r) {
+        return Err(Refused::from(Cause::NoFit));
+    }
+    let case = relabel::relabel(c, q as usize, r as usize);
+    Ok(Reading {
+        case,
+        length: writer::size(case),
+    })
 }
 
 // The representative of a record's class, the least of all its renumberings compared byte by byte, into another buffer from a place
@@ -232,13 +251,18 @@ pub fn representative(bytes: &[u8], out: &mut [u8], at: usize) -> Answer
 pub fn representative_case(c: Case) -> CaseAnswer
     ensures { result ≡ case_shown (representative_case (case_of c)) }
 {
-    let fault = case::fault(c);
-    if fault == 0 {
-        let case = least::representative(c);
-        let answer = answers::finished(writer::size(case));
-        return CaseAnswer { answer, case };
-    }
-    no_case(fault)
+    case_answer(represent_held(c))
+}
+
+fn represent_held(c: Case) -> Result<Reading, Refused>
+    ensures { case_given result ≡ case_shown (representative_case (case_of c)) }
+{
+    case::check(c)?;
+    let case = least::representative(c);
+    Ok(Reading {
+        case,
+        length: writer::size(case),
+    })
 }
 
 // Which of two records is the lesser, compared byte by byte: 1, also where they are equal, or 2, and its length; 0 and 0 where either
@@ -267,25 +291,20 @@ pub fn name<'a>(bytes: &'a [u8]) -> &'a [u8]
 pub fn judged_name<'a>(bytes: &'a [u8], model: u64) -> &'a [u8]
     ensures { result.now ≡ judged_name model bytes.now }
 {
-    if MODELS <= model {
-        return &bytes[0..0];
+    match model_of(model) {
+        Ok(_) => reader::name(bytes),
+        Err(_) => &bytes[..0],
     }
-    reader::name(bytes)
 }
 
 // Whether `renumber` into a buffer of so many bytes is done.
 fn renumbers(bytes: &[u8], q: u64, r: u64, room: usize, at: usize) -> bool
     ensures { result ≡ eqb (renumber_record q r bytes.now (replicate room 0) at).answer.number 0 }
 {
-    let reading = reader::read_case(bytes);
-    if reading.number == 0 {
-        let case = reading.case;
-        if fitting(case, q, r) {
-            return has_room(reading.length, room, at);
-        }
-        return false;
+    match reader::read_case(bytes) {
+        Ok(reading) => fitting(reading.case, q, r) && has_room(reading.length, room, at),
+        Err(_) => false,
     }
-    false
 }
 
 // The name beside `renumber` into a buffer of so many bytes: empty under 1 to 6 and 23.
@@ -293,9 +312,10 @@ pub fn renumbered_name<'a>(bytes: &'a [u8], q: u64, r: u64, room: usize, at: usi
     ensures { result.now ≡ renumbered_name q r bytes.now room at }
 {
     if renumbers(bytes, q, r, room, at) {
-        return reader::name(bytes);
+        reader::name(bytes)
+    } else {
+        &bytes[..0]
     }
-    &bytes[0..0]
 }
 
 // Appends a record to the log in an area, by at most so many stores: the log's own 9, 1 to 4 or 23; the record's 1 to 4 or 23; 6 for too
@@ -327,10 +347,7 @@ pub fn area_next(area: &[u8], at: usize) -> Frame
 fn has_room(size: usize, room: usize, at: usize) -> bool
     ensures { result ≡ room_in size room at }
 {
-    if at <= room {
-        return size <= room - at;
-    }
-    false
+    at <= room && size <= room - at
 }
 
 // Whether a case may not have so many threads or events.
@@ -413,8 +430,7 @@ pub fn fits(q: u64, n: usize) -> bool
 pub fn litmus_read(bytes: &[u8]) -> Answer
     ensures { result ≡ shown (answer_of (read_record bytes.now)) }
 {
-    let reading = read(bytes);
-    reading.answer
+    read(bytes).answer
 }
 
 pub fn litmus_judge(bytes: &[u8], model: u64) -> Answer
@@ -477,10 +493,10 @@ pub fn litmus_judged_name(bytes: &[u8], model: u64) -> Part
     ensures value { result ≡ judged_part model bytes.now }
     ensures result_value { bytes_of bytes.now result ≡ judged_name model bytes.now }
 {
-    if MODELS <= model {
-        return no_part();
+    match model_of(model) {
+        Ok(_) => litmus_name(bytes),
+        Err(_) => no_part(),
     }
-    litmus_name(bytes)
 }
 
 // Where the name beside `litmus_renumber` into a buffer of so many bytes lies.

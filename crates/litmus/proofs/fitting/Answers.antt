@@ -9,7 +9,7 @@ unfolding fitting case_of
 returns-then-fits c =
     let yes = sym c.fits.ensures ∙ c.if-fits.true in rw yes c.fits-then-fits.ensures
 
-pub returns : goal.returns
+pub returns-else-fits : goal.returns-else-fits
 unfolding fitting case_of
-returns c =
-    let none = sym c.fits.ensures ∙ c.if-fits.false in rw none
+returns-else-fits c =
+    let none = sym c.fits.ensures ∙ c.if-fits.false in rw none c.if-fits.false

@@ -7,4 +7,4 @@ use Rattle.litmus.proofs.litmus_read.Goals as goal
 pub returns : goal.returns
 unfolding case_shown
 returns c =
-    ap (λ (r : CaseAnswer). r.answer) c.read-reading.ensures
+    ap (λ (r : CaseAnswer). r.answer) c.read.ensures

@@ -1,54 +1,33 @@
 -- `litmus::renumber` meets its contract. Assumes nothing.
 use mathlib.Core.Path.{sym, ap, ◌∙◌}
 use Rattle.model.specs.Answers.{Stored}
+use Rattle.answers.specs.declared.Refused.{Refused}
+use Rattle.answers.specs.Shown.{shown, refusal_of}
 use Rattle.reader.proofs.Bytes.{slice_bytes}
-use Rattle.answers.specs.Shown.{shown}
-use Rattle.reader.proofs.Found.{found, missed, case-sound}
-use Rattle.litmus.proofs.Given.{relabelled_sound, renumber_done, renumber_misfit, renumber_missed}
+use Rattle.reader.proofs.Found.{found, case-sound}
+use Rattle.litmus.proofs.Given.{found-fits, renumber_done, renumber_missed}
 use Rattle.litmus.proofs.renumber.Goals as goal
 
--- where the reading was accepted
+pub renumber_read-requires-clause-sound : goal.renumber_read-requires-clause-sound
+renumber_read-requires-clause-sound c =
+    case-sound (found c.args.bytes.now (slice_bytes c.args.bytes.now c.type_inv.bytes) _ c.in-Ok.ensures)
 
-pub relabel-requires-clause-sound : goal.relabel-requires-clause-sound
-relabel-requires-clause-sound c =
-    case-sound (found c.args.bytes.now (slice_bytes c.args.bytes.now c.type_inv.bytes) _ c.read_case-reading.ensures c.if-reading-eq0.true)
+pub renumber_read-requires-clause-fits : goal.renumber_read-requires-clause-fits
+renumber_read-requires-clause-fits c =
+    found-fits _ _ c.args.q c.args.r (found c.args.bytes.now (slice_bytes c.args.bytes.now c.type_inv.bytes) _ c.in-Ok.ensures)
 
-pub relabel-requires-clause-c_value : goal.relabel-requires-clause-c_value
-relabel-requires-clause-c_value c =
-    sym c.fitting.ensures ∙ c.if-fitting.true
+pub returns-in-Ok-clause-value : goal.returns-in-Ok-clause-value
+returns-in-Ok-clause-value c =
+    c.renumber_read.ensures.value ∙ ap (λ (w : Stored). shown w.answer) (renumber_done _ _ _ _ (found c.args.bytes.now (slice_bytes c.args.bytes.now c.type_inv.bytes) _ c.in-Ok.ensures) _ _)
 
-pub put-requires : goal.put-requires
-put-requires c =
-    relabelled_sound _ _ _ _ (found c.args.bytes.now (slice_bytes c.args.bytes.now c.type_inv.bytes) _ c.read_case-reading.ensures c.if-reading-eq0.true) _ c.fitting.ensures c.if-fitting.true _ c.relabel.ensures
+pub returns-in-Ok-clause-out_after : goal.returns-in-Ok-clause-out_after
+returns-in-Ok-clause-out_after c =
+    c.renumber_read.ensures.out_after ∙ ap (λ (w : Stored). w.buffer) (renumber_done _ _ _ _ (found c.args.bytes.now (slice_bytes c.args.bytes.now c.type_inv.bytes) _ c.in-Ok.ensures) _ _)
 
-pub returns-then-fitting-clause-value : goal.returns-then-fitting-clause-value
-returns-then-fitting-clause-value c =
-    let same =
-    renumber_done _ _ _ _ (found c.args.bytes.now (slice_bytes c.args.bytes.now c.type_inv.bytes) _ c.read_case-reading.ensures c.if-reading-eq0.true) _ c.fitting.ensures c.if-fitting.true _ c.relabel.ensures _ _ in
-    c.put.ensures.value ∙ ap (λ (w : Stored). shown w.answer) same
+pub returns-in-Err-clause-value : goal.returns-in-Err-clause-value
+returns-in-Err-clause-value c =
+    c.from-in-Err.ensures ∙ ap (λ (e : Refused). shown (refusal_of e)) c.from.ensures ∙ sym (ap (λ (w : Stored). shown w.answer) (renumber_missed _ _ _ _ c.in-Err.ensures _ _))
 
-pub returns-then-fitting-clause-out_after : goal.returns-then-fitting-clause-out_after
-returns-then-fitting-clause-out_after c =
-    let same =
-    renumber_done _ _ _ _ (found c.args.bytes.now (slice_bytes c.args.bytes.now c.type_inv.bytes) _ c.read_case-reading.ensures c.if-reading-eq0.true) _ c.fitting.ensures c.if-fitting.true _ c.relabel.ensures _ _ in
-    c.put.ensures.out_after ∙ ap (λ (w : Stored). w.buffer) same
-
-pub returns-then-reading-eq0-clause-value : goal.returns-then-reading-eq0-clause-value
-returns-then-reading-eq0-clause-value c =
-    let same = renumber_misfit _ _ _ _ (found c.args.bytes.now (slice_bytes c.args.bytes.now c.type_inv.bytes) _ c.read_case-reading.ensures c.if-reading-eq0.true) _ c.fitting.ensures c.if-fitting.false _ _ in
-    c.refused.ensures ∙ sym (ap (λ (w : Stored). shown w.answer) same)
-
-pub returns-then-reading-eq0-clause-out_after : goal.returns-then-reading-eq0-clause-out_after
-returns-then-reading-eq0-clause-out_after c =
-    let same = renumber_misfit _ _ _ _ (found c.args.bytes.now (slice_bytes c.args.bytes.now c.type_inv.bytes) _ c.read_case-reading.ensures c.if-reading-eq0.true) _ c.fitting.ensures c.if-fitting.false _ _ in
-    sym (ap (λ (w : Stored). w.buffer) same)
-
-pub returns-clause-value : goal.returns-clause-value
-returns-clause-value c =
-    let same = renumber_missed _ c.read_case-reading.result _ _ (missed _ _ c.read_case-reading.ensures c.if-reading-eq0.false) _ _ in
-    c.refused-2.ensures ∙ sym (ap (λ (w : Stored). shown w.answer) same)
-
-pub returns-clause-out_after : goal.returns-clause-out_after
-returns-clause-out_after c =
-    let same = renumber_missed _ c.read_case-reading.result _ _ (missed _ _ c.read_case-reading.ensures c.if-reading-eq0.false) _ _ in
-    sym (ap (λ (w : Stored). w.buffer) same)
+pub returns-in-Err-clause-out_after : goal.returns-in-Err-clause-out_after
+returns-in-Err-clause-out_after c =
+    sym (ap (λ (w : Stored). w.buffer) (renumber_missed _ _ _ _ c.in-Err.ensures _ _))

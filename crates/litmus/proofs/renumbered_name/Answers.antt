@@ -29,6 +29,6 @@ pub returns-then-renumbers : goal.returns-then-renumbers
 returns-then-renumbers c =
     c.name.ensures ∙ sym (done-name _ _ _ _ _ (sym c.renumbers.ensures ∙ c.if-renumbers.true))
 
-pub returns : goal.returns
-returns c =
+pub returns-else-renumbers : goal.returns-else-renumbers
+returns-else-renumbers c =
     sym (no_name _ _ _ _ _ (sym c.renumbers.ensures ∙ c.if-renumbers.false))
