@@ -4,7 +4,6 @@ use Prim.Native.Nat.{ℕ, zero, suc, ◌+◌, ◌-◌, ◌*◌, ◌/◌, ◌%◌
 use native.Mathlib.Nat.{mod-lt, div-add-mod', add-mul, mul-add, mul_assoc, mul_comm, one-mul, zero-mul, zero-add, add-div_right, div-eq_of_lt, mod-eq_of_lt, pow-suc, mul-le-mul_right}
 use native.Mathlib.Numerals.{add-one}
 use native.Mathlib.Omega.{arith}
-use native.Mathlib.Decide.{dec_le}
 use mathlib.Core.Path.{◌≡◌, refl, sym, ap, ap₂, ◌∙◌, subst}
 use mathlib.Core.Bool.{Bool, true, false, not}
 use lib.Dec.{eqb}
@@ -150,14 +149,6 @@ place-lt s h = pow-lt h
 
 pub half_le : (s : ℕ) → s < digits → 2 ^ s ≤ most_events / 2
 half_le s h = pow_mono {j = digits - 1} (omega arith)
-
--- a number has a digit above s
-pub digit_left : (s k : ℕ) → 2 ^ s < k → k ≤ most_events → s < digits
-digit_left s k h l = by (dec_le digits s)
-  where
-    by : Dec (digits ≤ s) → s < digits
-    by (yes g) = let p : 2 ^ digits ≤ 2 ^ s = pow_mono g in absurd (omega arith)
-    by (no d) = omega arith
 
 -- the row of t with digit 0, where the digits of t from s on stand for a
 row_is : (s t a : ℕ) → t / 2 ^ s * 2 ^ s ≡ a → a + t ≡ insert s false t
