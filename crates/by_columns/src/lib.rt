@@ -14,7 +14,7 @@ ghost use Rattle.by_columns.specs.Parts.{WithColumns, Joined, Shared, applies_in
 
 use case::Case;
 
-// The orders of n threads over k events.
+// The orders of n threads over k events. The public tests take its fields apart, so that none asks for more than its `requires`.
 #[derive(Clone, Copy)]
 struct Orders<'a> {
     rows: &'a [u64; Case::MOST_THREADS * Case::MOST_EVENTS],

@@ -181,7 +181,8 @@ fn fresh_load(
     ensures { Set result (λ e. fresh_in loads values.now addresses.now initial.now l && eqb e l) }
 {
     if bits::has(loads, l) {
-        rows::where_so(values[l] == initial[addresses[l] as usize], rows::alone(l))
+        let x = usize::from(addresses[l]);
+        rows::where_so(values[l] == initial[x], rows::alone(l))
     } else {
         0
     }
@@ -371,7 +372,7 @@ fn last_value(c: &Case, x: usize, i: usize) -> u32
     if i == 0 {
         c.initial[x]
     } else {
-        let e = c.writes[x * Case::MOST_EVENTS + (i - 1)] as usize;
+        let e = usize::from(c.writes[x * Case::MOST_EVENTS + (i - 1)]);
         value_at(c, e)
     }
 }

@@ -1,5 +1,6 @@
 // Rules 15 to 18: the values that loads hold, and what barriers carry. `known` holds what a rule presupposes, `asked` what
-// it asks for.
+// it asks for. They are not one with the tests of by_columns: without columns, what comes before an event costs a pass over the rows,
+// so these tests loop over other sets.
 #![tactic(auto)]
 
 ghost use Rattle.std.specs.Prelude.{◌≡◌, true, ◌&&◌, ℕ, ◌*◌, ◌<◌, ◌≤◌, eqb, ltb, get_or};

@@ -1,6 +1,5 @@
 -- `rules::fresh_load` meets its contract. Assumes nothing.
 use Prim.Native.Nat.{◌<◌}
-use borrow.Author.Rules.{rules}
 use native.Mathlib.Omega.{arith}
 use mathlib.Core.Path.{sym, ap, ◌∙◌}
 use mathlib.Core.Bool.{◌&&◌}
@@ -11,24 +10,14 @@ use Rattle.bits.proofs.Bits.{bit-zero}
 use Rattle.rows.proofs.SetLaws.{so_set}
 use Rattle.rules.proofs.fresh_load.Goals as goal
 
-pub overflow_cast-addresses : goal.overflow_cast-addresses
-overflow_cast-addresses c =
+pub bounds-initial-x : goal.bounds-initial-x
+bounds-initial-x c =
     let x : get_or c.args.addresses.now c.args.l 0 < most_addresses = c.requires.l_bound (sym c.has.ensures ∙ c.if-has.true) in
-    omega arith
-
-pub offset_bounds-initial-addresses : goal.offset_bounds-initial-addresses
-offset_bounds-initial-addresses c =
-    let x : get_or c.args.addresses.now c.args.l 0 < most_addresses = c.requires.l_bound (sym c.has.ensures ∙ c.if-has.true) in
-    omega arith
-
-pub bounds-initial-addresses : goal.bounds-initial-addresses
-bounds-initial-addresses c =
-    let x : get_or c.args.addresses.now c.args.l 0 < most_addresses = c.requires.l_bound (sym c.has.ensures ∙ c.if-has.true) in
-    search rules
+    omega (arith, c.from-x.ensures)
 
 pub returns-then-has : goal.returns-then-has
 returns-then-has c =
-    so_set {t = eqb (get_or c.args.values.now c.args.l 0) (get_or c.args.initial.now (get_or c.args.addresses.now c.args.l 0) 0)} c.where_so.ensures
+    so_set {t = eqb (get_or c.args.values.now c.args.l 0) (get_or c.args.initial.now (get_or c.args.addresses.now c.args.l 0) 0)} (rw c.from-x.ensures at c.where_so.ensures)
     (ap (λ t. t && eqb (get_or c.args.values.now c.args.l 0) (get_or c.args.initial.now (get_or c.args.addresses.now c.args.l 0) 0)) (sym (sym c.has.ensures ∙ c.if-has.true)))
     c.alone.ensures
 

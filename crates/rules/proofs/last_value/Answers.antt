@@ -10,15 +10,10 @@ use Rattle.rules.proofs.Last.{cond_yes, cond_no, pred_lt}
 use Rattle.model.specs.Limits.{most_events}
 use Rattle.rules.proofs.last_value.Goals as goal
 
-pub overflow_cast-e : goal.overflow_cast-e
-overflow_cast-e c =
-    let e = c.requires.by_index (c.args.i - 1) (pred_lt c.args.i c.if-i-eq0.false) in
-    omega arith
-
 pub value_at-requires : goal.value_at-requires
 value_at-requires c =
     let e = c.requires.by_index (c.args.i - 1) (pred_lt c.args.i c.if-i-eq0.false) in
-    e
+    omega (arith, c.from-e.ensures)
 
 pub returns-then-i-eq0 : goal.returns-then-i-eq0
 returns-then-i-eq0 c =
@@ -26,4 +21,4 @@ returns-then-i-eq0 c =
 
 pub returns-else-i-eq0 : goal.returns-else-i-eq0
 returns-else-i-eq0 c =
-    c.value_at.ensures ∙ cond_no (eqb c.args.i 0) (get_or c.args.c.now.initial c.args.x 0) (value_in c.args.c.now.kind c.args.c.now.value (get_or c.args.c.now.writes (c.args.x * most_events + (c.args.i - 1)) 0)) (ne_eqb _ _ c.if-i-eq0.false)
+    (rw c.from-e.ensures at c.value_at.ensures) ∙ cond_no (eqb c.args.i 0) (get_or c.args.c.now.initial c.args.x 0) (value_in c.args.c.now.kind c.args.c.now.value (get_or c.args.c.now.writes (c.args.x * most_events + (c.args.i - 1)) 0)) (ne_eqb _ _ c.if-i-eq0.false)
