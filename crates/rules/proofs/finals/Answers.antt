@@ -10,16 +10,6 @@ unfolding finals
 loop-x-init c =
     fill_none (search rules)
 
-pub final_value-requires-clause-k_le_most_events : goal.final_value-requires-clause-k_le_most_events
-unfolding finals
-final_value-requires-clause-k_le_most_events c =
-    c.requires.events_most
-
-pub final_value-requires-clause-x_lt_most_addresses : goal.final_value-requires-clause-x_lt_most_addresses
-unfolding finals
-final_value-requires-clause-x_lt_most_addresses c =
-    c.loop-x-test.true
-
 pub final_value-requires-clause-j_bound : goal.final_value-requires-clause-j_bound
 unfolding finals
 final_value-requires-clause-j_bound c =

@@ -6,10 +6,6 @@ pub loop-l-init : goal.loop-l-init
 loop-l-init c =
     search empty
 
-pub reached_by-found-requires-clause-l_lt_k : goal.reached_by-found-requires-clause-l_lt_k
-reached_by-found-requires-clause-l_lt_k c =
-    c.loop-l-test.true
-
 pub reached_by-found-requires-clause-l_bound : goal.reached_by-found-requires-clause-l_bound
 reached_by-found-requires-clause-l_bound c =
     c.requires.by_index c.loop-l.l c.loop-l-test.true

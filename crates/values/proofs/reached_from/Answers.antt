@@ -7,10 +7,6 @@ use Rattle.values.specs.Parts.{thread_in}
 use Rattle.values.proofs.Laws.{reached-same}
 use Rattle.values.proofs.reached_from.Goals as goal
 
-pub reached-requires-clause-by_index : goal.reached-requires-clause-by_index
-reached-requires-clause-by_index c =
-    c.requires.by_index
-
 pub returns : goal.returns
 returns c =
     reached-same c.args.k (set_in c.args.read.now) (λ l g. order_in c.args.known.now (thread_in c.args.threads.now l) l g)

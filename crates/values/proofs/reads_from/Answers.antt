@@ -7,10 +7,6 @@ pub loop-l-init : goal.loop-l-init
 loop-l-init c =
     unfilled (search rules)
 
-pub read_by-requires-clause-l_lt_k : goal.read_by-requires-clause-l_lt_k
-read_by-requires-clause-l_lt_k c =
-    c.loop-l-test.true
-
 pub read_by-requires-clause-l_bound : goal.read_by-requires-clause-l_bound
 read_by-requires-clause-l_bound c =
     c.requires.by_index c.loop-l.l c.loop-l-test.true
