@@ -33,9 +33,10 @@ pub use area::Frame;
 use case::Case;
 pub use condition::ConditionAnswer;
 pub use log_pieces::{JudgedLog, LogAnswer, judge_log, judged_part};
+use number::Fault;
 use reader::Reading;
 pub use representatives::Choice;
-use rules::Model;
+use rules::{Model, Rule};
 pub use storage::Storage;
 pub use tally::Tally;
 pub use trace_reader::{Trace, TraceReading};
@@ -56,11 +57,6 @@ pub struct Part {
     pub at: usize,
     pub length: usize,
 }
-
-// The numbers of a count above its most and of a broken rule 11.
-const TOO_MANY: u32 = 3;
-
-const NOT_TRANSITIVE: u32 = 11;
 
 // The model with this number.
 fn model_of(number: u64) -> Result<Model, Refused>
@@ -361,7 +357,11 @@ fn too_many(threads: usize, events: usize) -> bool
 fn rule11_number(holds: bool) -> u32
     ensures { result ≡ or_else holds 11 0 }
 {
-    if holds { 0 } else { NOT_TRANSITIVE }
+    if holds {
+        0
+    } else {
+        u32::from(Rule::StrictOrder)
+    }
 }
 
 // Rule 11 of orders alone, a whole row at once: 3 for more threads or events than a case may have, 11 or 0. Bit b of the
@@ -374,7 +374,7 @@ pub fn rule11(
     ensures { result ≡ rule11_answer threads events rows.now }
 {
     if too_many(threads, events) {
-        return TOO_MANY;
+        return u32::from(Fault::Range);
     }
     rule11_number(one_order::rule11(rows, threads, events))
 }
@@ -388,7 +388,7 @@ pub fn rule11_by_threes(
     ensures { result ≡ rule11_answer threads events rows.now }
 {
     if too_many(threads, events) {
-        return TOO_MANY;
+        return u32::from(Fault::Range);
     }
     rule11_number(orders::rule11_by_threes(rows, rows, threads, events))
 }

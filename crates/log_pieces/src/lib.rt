@@ -16,10 +16,7 @@ use case::Case;
 use number::{Fault, Refusal};
 use reader::Reading;
 use rules::Model;
-use tally::Tally;
-
-// The number of a full count.
-const FULL: u32 = 6;
+use tally::{NotAdded, Tally};
 
 // A record's verdict under PPCs, 0 or the lowest rule that it breaks, and its length.
 #[derive(Clone, Copy)]
@@ -126,7 +123,7 @@ fn ended_at(stopped: Stopped, size: usize, from: u64) -> LogAnswer
     }
     match stopped.why {
         Stop::Full => LogAnswer {
-            number: FULL,
+            number: u32::from(NotAdded::Full),
             ended: true,
             place: 0,
             length: stopped.judged,

@@ -19,7 +19,7 @@ impl Tally {
     // a count's most
     pub const MOST_COUNT: u32 = 4294967295;
 
-    // rules 11 to 18
+    // rules 11 to 18, as numbers: a log counts the verdicts that any caller names
     pub const FIRST_RULE: u32 = 11;
 
     pub const LAST_RULE: u32 = 18;

@@ -11,8 +11,8 @@ returns-then-size-stopped c =
 
 pub returns-in-Full : goal.returns-in-Full
 returns-in-Full c =
-    ends_full _ _ (stopped_shown c.args.stopped) c.if-size-stopped.false (ap (λ (w : Stop). number_of (stop_of w)) c.in-Full.is)
+    rw c.from.ensures (ends_full _ _ (stopped_shown c.args.stopped) c.if-size-stopped.false (ap (λ (w : Stop). number_of (stop_of w)) c.in-Full.is))
 
 pub returns-in-Refused : goal.returns-in-Refused
 returns-in-Refused c =
-    ends_by _ _ c.args.stopped _ c.in-Refused.is c.if-size-stopped.false _ c.from.ensures
+    ends_by _ _ c.args.stopped _ c.in-Refused.is c.if-size-stopped.false _ c.from-in-Refused.ensures
