@@ -1,4 +1,5 @@
 -- `representatives::compared` meets its contract. Assumes nothing.
+use borrow.Author.Rules.{rules}
 use Rattle.representatives.proofs.Chosen.{record_within, first_missed, second_missed, chose_first, chose_second}
 use Rattle.representatives.proofs.compared.Goals as goal
 
@@ -12,11 +13,11 @@ returns-in_default-read_case c =
 
 pub slice_bounds-at_most-end : goal.slice_bounds-at_most-end
 slice_bounds-at_most-end c =
-    record_within _ c.type_inv.first _ c.in-Ok.ensures
+    search (record_within, rules)
 
 pub slice_bounds-at_most-end-2 : goal.slice_bounds-at_most-end-2
 slice_bounds-at_most-end-2 c =
-    record_within _ c.type_inv.second _ c.in-Ok-read_case.ensures
+    search (record_within, rules)
 
 pub returns-then-at_most : goal.returns-then-at_most
 returns-then-at_most c =
