@@ -24,11 +24,11 @@ pub enum Cause {
     NoFit,
     // the record does not fit in the buffer
     NoRoom,
-    // the model's number is none
+    // no model has the number
     NoModel,
     // bytes behind the last finished frame of a log are not unused
     Unrepaired,
-    // a frame's flag is none
+    // a frame's flag is neither that of a finished frame nor unused
     BadFlag,
 }
 
