@@ -111,9 +111,6 @@ renumber-not q r c i e = rw e
 
 -- renumbering a case
 module _ (c : Case) (q r : ℕ) (b : Bool) (e : b ≡ fitting q r c) (buffer : List ℕ) (at : ℕ) where
-  pub misfit : b ≡ false → put_out (renumber_out q r (next c 0)) buffer at ≡ record { answer = refusal 5 0; buffer = buffer }
-  misfit h = ap (λ (o : Out Case). put_out o buffer at) (renumber-not q r c 0 (sym e ∙ h))
-
   pub fitted : b ≡ true → Fits c → (d : Held) → d ≡ held (renumber q r c) → put (record_of (case_of d)) buffer at ≡ put_out (renumber_out q r (next c 0)) buffer at
   fitted h F d g =
       ap (λ (x : Case). put (record_of x) buffer at) (renumbered_is c F q r d (sym e ∙ h) g)

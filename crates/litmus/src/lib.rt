@@ -5,12 +5,9 @@ ghost use Rattle.std.specs.Prelude.{◌≡◌, true, eqb, replicate};
 ghost use Rattle.permutation.specs.Permutation.{composite as composite_of, inverse as inverse_of, fits as fits_of};
 ghost use Rattle.model.specs.Rules.{or_else};
 ghost use Rattle.model.specs.Record.{read as read_record};
-ghost use Rattle.model.specs.Answers.{answer_of, judge as judge_record, judge_case, write as write_case, put_out, renumber_out, renumber_record, renumber_case, name as name_of, judged_name, renumbered_name, room_in};
-ghost use Rattle.number.specs.Reader.{next};
+ghost use Rattle.model.specs.Answers.{answer_of, judge as judge_record, judge_case, write as write_case, renumber_record, renumber_case, name as name_of, judged_name, renumbered_name, room_in};
 ghost use Rattle.model.specs.Renumber.{fitting as fitting_of};
-ghost use Rattle.model.specs.Fits.{Fits};
 ghost use Rattle.case.specs.Held.{case_of};
-ghost use Rattle.case.specs.Sound.{Sound};
 ghost use Rattle.answers.specs.Shown.{shown, given};
 ghost use Rattle.classes.specs.Representative.{representative_record, representative_case, choice as choice_of, lesser as lesser_of};
 ghost use Rattle.representatives.specs.Shown.{choice_shown};
@@ -195,22 +192,15 @@ pub fn renumber(bytes: &[u8], q: u64, r: u64, out: &mut [u8], at: usize) -> Answ
     ensures out_after { out.new ≡ (renumber_record q r bytes.now out.old at).buffer }
 {
     match reader::read_case(bytes) {
-        Ok(reading) => renumber_read(reading.case, q, r, out, at),
+        Ok(reading) => {
+            let case = reading.case;
+            if !fitting(case, q, r) {
+                return Answer::from(Refused::from(Cause::NoFit));
+            }
+            answers::put(relabel::relabel(case, q as usize, r as usize), out, at)
+        }
         Err(e) => Answer::from(Refused::from(e)),
     }
-}
-
-// The same of a case that was read.
-fn renumber_read(case: Case, q: u64, r: u64, out: &mut [u8], at: usize) -> Answer
-    requires sound { Sound case }
-    requires fits { Fits (case_of case) }
-    ensures value { result ≡ shown (put_out (renumber_out q r (next (case_of case) 0)) out.old at).answer }
-    ensures out_after { out.new ≡ (put_out (renumber_out q r (next (case_of case) 0)) out.old at).buffer }
-{
-    if !fitting(case, q, r) {
-        return Answer::from(Refused::from(Cause::NoFit));
-    }
-    answers::put(relabel::relabel(case, q as usize, r as usize), out, at)
 }
 
 // Renumbers a case: 3, 4 or 23 with place 0 for a bad field; 5; or 0, the length of its record and the case.
