@@ -81,28 +81,36 @@ fn stands(text: &[u8], i: usize, b: u8) -> bool
     text.get(i) == Some(&b)
 }
 
+// What stands from a place on.
+fn rest(text: &[u8], at: usize) -> &[u8]
+    ensures { result.now ≡ drop at text.now }
+{
+    &text[at.min(text.len())..]
+}
+
 // The place behind the spaces that stand at one.
 fn skip(text: &[u8], at: usize) -> usize
     ensures { result ≡ skipped text.now at }
 {
-    at + text.iter().skip(at).take_while(|&&b| b == b' ').count()
+    at + rest(text, at).iter().take_while(|&&b| b == b' ').count()
 }
 
 // How many digits stand from a place on.
 fn digits(text: &[u8], at: usize) -> usize
     ensures { result ≡ length (digits (drop at text.now)) }
 {
-    text.iter()
-        .skip(at)
+    rest(text, at)
+        .iter()
         .take_while(|b| b.is_ascii_digit())
         .count()
 }
 
-// The value of the digits from a place on.
-fn value_of(text: &[u8], at: usize) -> Result<(u32, usize), TextRefusal>
+// The value of the digits from a place on, so many.
+fn value_of(text: &[u8], at: usize, count: usize) -> Result<(u32, usize), TextRefusal>
+    requires { count ≡ length (digits (drop at text.now)) }
     ensures { told result ≡ digits_in text.now at }
 {
-    let end = at + digits(text, at);
+    let end = at + count;
     let mut value: u64 = 0;
     for i in at..end {
         value = value * 10 + u64::from(text[i] - b'0');
@@ -113,11 +121,11 @@ fn value_of(text: &[u8], at: usize) -> Result<(u32, usize), TextRefusal>
     Ok((value as u32, end))
 }
 
-// Whether no digit stands at a place, or a needless zero.
-fn unfit(text: &[u8], at: usize) -> bool
+// Whether of the digits from a place on, so many, there is none, or the first is a needless zero.
+fn unfit(text: &[u8], at: usize, count: usize) -> bool
+    requires { count ≡ length (digits (drop at text.now)) }
     ensures { result ≡ unfit_digits (digits (drop at text.now)) }
 {
-    let count = digits(text, at);
     count == 0 || 1 < count && text[at] == b'0'
 }
 
@@ -125,10 +133,11 @@ fn unfit(text: &[u8], at: usize) -> bool
 fn number(text: &[u8], at: usize) -> Result<(u32, usize), TextRefusal>
     ensures { told result ≡ number_in is_value text.now at }
 {
-    if unfit(text, at) {
+    let count = digits(text, at);
+    if unfit(text, at, count) {
         return Err(TextFault::Grammar.at(at));
     }
-    value_of(text, at)
+    value_of(text, at, count)
 }
 
 // The byte b, which has to stand at a place; gives the next place.

@@ -3,8 +3,8 @@
 use Prim.Native.Nat.{ℕ, ◌+◌, ◌≤◌, ◌<◌}
 use native.Mathlib.Nat.{le_antisymm}
 use native.Mathlib.Omega.{arith}
-use mathlib.Core.Path.{◌≡◌, refl, ap, ap₂, ◌∙◌, subst}
-use mathlib.Core.Bool.{Bool, true, false, cond}
+use mathlib.Core.Path.{◌≡◌, refl, sym, ap, ap₂, ◌∙◌, subst}
+use mathlib.Core.Bool.{Bool, true, false, cond, false≢true}
 use mathlib.Core.List.{List, [], ◌++◌}
 use lib.ListN.{get_or}
 use Rattle.finite.specs.Lists.{table, each}
@@ -26,30 +26,45 @@ use Rattle.relabel.specs.Orders.{order}
 use Rattle.classes.specs.Order.{at_most}
 use Rattle.classes.specs.Representative.{representative}
 use Rattle.classes.specs.Search.{Best, BestThreads, BestAddresses}
+use Rattle.classes.proofs.Order.{at_most_trans}
 use Rattle.classes.proofs.Decide.{thread_byte, thread_bytes, orders_bytes, address_byte, initial_bytes, address_bytes, threads_decide}
 use Rattle.classes.proofs.Search.{best_first, best_kept, best_taken, best_by, best_two, addresses_alone}
+use Rattle.least.specs.Chosen.{Chosen}
 use Rattle.least.specs.Parts.{thread_at, order_at, threads_part, initial_at, address_at, addresses_part}
 
 -- ---- the search
 
--- of the permutations below i that fit n labels, best gives the least part
+-- of the permutations below i, best is the one that is chosen
 pub record Tried (part : ℕ → List ℕ) (n best i : ℕ) : Type 0 where
   pub within : i ≤ permutations
-  pub best_so_far : Best (λ q. fits q n) part i best
+  pub chosen : Chosen part n i best
 
 module _ (part : ℕ → List ℕ) (n : ℕ) where
   pub one_tried : Tried part n 0 1
-  one_tried = record { within = omega arith; best_so_far = best_first (λ q. fits q n) part (T_true {b = fits 0 n} (fits_identity n)) }
+  one_tried = record {
+    within = omega arith;
+    chosen = record { best = best_first (λ q. fits q n) part (T_true {b = fits 0 n} (fits_identity n)); first = λ p l f. absurd (omega arith) };
+  }
 
   module _ (best i : ℕ) (T : Tried part n best i) where
     pub tried_kept : i < permutations → (fits i n ≡ true → at_most (part best) (part i) ≡ true) → Tried part n best (i + 1)
-    tried_kept l h = record { within = omega arith; best_so_far = best_kept (λ q. fits q n) part i best T.best_so_far h }
+    tried_kept l h = record { within = omega arith; chosen = record { best = best_kept (λ q. fits q n) part i best T.chosen.best h; first = T.chosen.first } }
 
     pub tried_taken : i < permutations → fits i n ≡ true → at_most (part best) (part i) ≡ false → Tried part n i (i + 1)
-    tried_taken l f g = record { within = omega arith; best_so_far = best_taken (λ q. fits q n) part i best T.best_so_far f g }
+    tried_taken l f g = record {
+      within = omega arith;
+      chosen = record { best = best_taken (λ q. fits q n) part i best T.chosen.best f g; first = λ p k h. less p (T.chosen.best.least p k h) };
+    }
+      where
+        less : (p : ℕ) → at_most (part best) (part p) ≡ true → at_most (part p) (part i) ≡ false
+        less p h = go (at_most (part p) (part i)) refl
+          where
+            go : (b : Bool) → at_most (part p) (part i) ≡ b → b ≡ false
+            go true e = absurd (false≢true (sym g ∙ at_most_trans (part best) (part p) (part i) h e))
+            go false e = refl
 
-    pub tried_all : permutations ≤ i → Best (λ q. fits q n) part permutations best
-    tried_all l = subst (λ (j : ℕ). Best (λ q. fits q n) part j best) (le_antisymm T.within l) T.best_so_far
+    pub tried_all : permutations ≤ i → Chosen part n permutations best
+    tried_all l = subst (λ (j : ℕ). Chosen part n j best) (le_antisymm T.within l) T.chosen
 
 -- ---- the parts of a struct are those of its case
 

@@ -11,8 +11,9 @@ ghost use Rattle.model.specs.Fault.{fault};
 ghost use Rattle.case.specs.Held.{case_of, held};
 ghost use Rattle.writer.specs.Stages.{run};
 ghost use Rattle.classes.specs.Representative.{representative as representative_of};
-ghost use Rattle.classes.specs.Search.{Best, BestThreads, BestAddresses};
+ghost use Rattle.classes.specs.Search.{BestThreads, BestAddresses};
 ghost use Rattle.compare.specs.Decided.{Decided};
+ghost use Rattle.least.specs.Chosen.{Chosen};
 ghost use Rattle.least.specs.Fields.{FirstDiffers};
 ghost use Rattle.least.specs.Parts.{thread_at, order_at, threads_part, initial_at, address_at, addresses_part};
 
@@ -107,7 +108,7 @@ fn by_threads<'a>(
 // Of all permutations of n labels the best by how what they give compares, the first of those that give the same.
 fn best<F: Fn(usize, usize) -> Ordering>(n: usize, by: F) -> usize
     requires { F.IsAlwaysCallable by }
-    ensures { (part : ℕ → List ℕ) → ((q p : ℕ) (r : Ordering) → F.post by q p r → Decided (part q) (part p) r) → Best (λ q. fits q n) part permutations result }
+    ensures { (part : ℕ → List ℕ) → ((q p : ℕ) (r : Ordering) → F.post by q p r → Decided (part q) (part p) r) → Chosen part n permutations result }
 {
     let mut best = 0;
     for q in 1..permutation::PERMUTATIONS {

@@ -2,14 +2,13 @@
 -- Assumes nothing.
 use mathlib.Core.Path.{◌≡◌, refl, sym, subst, ap, ap₂, ◌∙◌, fun_ext}
 use mathlib.Core.Bool.{Bool, true, false, ◌&&◌, ◌||◌, not, cond}
-use Prim.Native.Nat.{ℕ, zero, suc, ◌+◌, ◌*◌, ◌<◌, ◌≤◌, min}
+use Prim.Native.Nat.{ℕ, zero, suc, ◌+◌, ◌*◌, ◌<◌, ◌≤◌}
 use native.Mathlib.Numerals.{add-one}
 use mathlib.Core.List.{[], ◌∷◌, ◌++◌}
 use Rattle.std.specs.List.{range_with_len, list_all}
 use Rattle.std.proofs.lemmas.List.{map-id}
 use Rattle.std.proofs.lemmas.List.FromFn.{map-range_with_len_more}
 use Rattle.std.proofs.lemmas.List.Folds.{list_all-append}
-use Rattle.std.proofs.Math.Nat.{min-eq_left, min-eq_right}
 use native.Mathlib.Omega.{arith}
 use native.Mathlib.Nat.{not-le_of_lt, zero-add}
 use native.Mathlib.Decide.{dec_lt}
@@ -183,16 +182,10 @@ image_many q n hq l x h = near (dec_lt x labels)
 pub fits_many : (q n : ℕ) → q < permutations → labels ≤ n → fits q n ≡ true
 fits_many q n hq l = fits_yes q n hq (image_many q n hq l)
 
--- so that no more than these have to be looked at
-pub fits_few : (q n : ℕ) → q < permutations → all (min n labels) (λ x. ltb (image q x) n) ≡ fits q n
+-- below a permutation's number it is the test of each label
+pub fits_by : (q n : ℕ) → q < permutations → all n (λ x. ltb (image q x) n) ≡ fits q n
 unfolding fits
-fits_few q n hq = by (dec_lt labels n)
-  where
-    by : Dec (labels < n) → all (min n labels) (λ x. ltb (image q x) n) ≡ (ltb q permutations && all n (λ x. ltb (image q x) n))
-    by (yes h) =
-        rw (min-eq_right {n = labels} {m = n} (omega arith))
-        (T_true (T-all labels (λ x. ltb (image q x) n) (λ x l. lt→ltb (image q x) n (image_many q n hq (omega arith) x (omega arith)))) ∙ sym (fits_many q n hq (omega arith)))
-    by (no d) = rw (min-eq_left {n = n} {m = labels} (omega arith), lt-ltb q permutations hq)
+fits_by q n hq = rw (lt-ltb q permutations hq)
 
 -- a test of each number of a range is one of each below its end
 and-true : (y : Bool) → (y && true) ≡ y

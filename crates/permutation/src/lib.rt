@@ -161,5 +161,5 @@ pub fn inverse(q: usize) -> usize
 pub fn fits(q: usize, n: usize) -> bool
     ensures { result ≡ fits_of q n }
 {
-    q < PERMUTATIONS && (0..n.min(LABELS)).all(|x| image(q, x) < n)
+    q < PERMUTATIONS && (LABELS <= n || (0..n).all(|x| image(q, x) < n))
 }

@@ -21,13 +21,16 @@ pub fn fail(errors: &impl Print, what: &[u8], why: &io::Error) {
     let _ = errors.println(format_args!(": {why}"));
 }
 
-// Moves the bytes from `at` up to `have` to the front, and gives how many they are. The bytes behind them stay.
+// Moves the bytes from `at` up to `have` to the front, and gives how many they are. The bytes behind them stay. Bytes that stand at the
+// front already are not copied, so that a small read costs no more than what it brings.
 pub fn moved_up(buffer: &mut [u8], at: usize, have: usize) -> usize
     requires { Kept at have (length buffer.old) }
     ensures value { result ≡ have - at }
     ensures buffer_after { buffer.new ≡ moved_up buffer.old at have }
 {
-    buffer.copy_within(at..have, 0);
+    if 0 < at {
+        buffer.copy_within(at..have, 0);
+    }
     have - at
 }
 

@@ -16,4 +16,4 @@ best-requires c =
 pub returns : goal.returns
 returns c =
     let a = c.args in
-    best_addresses_is _ c.requires _ (c.best.ensures (addresses_part a.c.initial a.c.kind a.c.address a.c.addresses a.c.events) (λ q p r h. search rules))
+    best_addresses_is _ c.requires _ ((c.best.ensures (addresses_part a.c.initial a.c.kind a.c.address a.c.addresses a.c.events) (λ q p r h. search rules)).best)

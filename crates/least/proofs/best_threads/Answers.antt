@@ -16,4 +16,4 @@ best-requires c =
 pub returns : goal.returns
 returns c =
     let a = c.args in
-    best_threads_is _ c.requires _ (c.best.ensures (threads_part a.c.thread a.c.rows a.c.threads a.c.events) (λ q p r h. search rules))
+    best_threads_is _ c.requires _ ((c.best.ensures (threads_part a.c.thread a.c.rows a.c.threads a.c.events) (λ q p r h. search rules)).best)
