@@ -55,6 +55,9 @@ unfolding front
 front-prefix test [] = refl
 front-prefix test (x ∷ xs) = take_while-cons test x xs ∙ ap (λ (l : List ℕ). cond (test x) (x ∷ l) []) (front-prefix test xs)
 
+pub front-count : (test : ℕ → Bool) (xs s : List ℕ) → xs ≡ s → length (take (prefix_len test xs) xs) ≡ length (front test s)
+front-count test xs s e = ap (λ (l : List ℕ). length l) (front-prefix test xs) ∙ ap (λ (l : List ℕ). length (front test l)) e
+
 front-short : (test : ℕ → Bool) (xs : List ℕ) → length (front test xs) ≤ length xs
 unfolding front
 front-short test [] = omega arith

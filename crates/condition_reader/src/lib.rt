@@ -105,7 +105,7 @@ fn digits(text: &[u8], at: usize) -> usize
         .count()
 }
 
-// The value of the digits from a place on, so many.
+// The value of the digits from a place on, which are `count`.
 fn value_of(text: &[u8], at: usize, count: usize) -> Result<(u32, usize), TextRefusal>
     requires { count ≡ length (digits (drop at text.now)) }
     ensures { told result ≡ digits_in text.now at }
@@ -121,7 +121,7 @@ fn value_of(text: &[u8], at: usize, count: usize) -> Result<(u32, usize), TextRe
     Ok((value as u32, end))
 }
 
-// Whether of the digits from a place on, so many, there is none, or the first is a needless zero.
+// Whether no digit stands at a place, or a needless zero; the digits from there on are `count`.
 fn unfit(text: &[u8], at: usize, count: usize) -> bool
     requires { count ≡ length (digits (drop at text.now)) }
     ensures { result ≡ unfit_digits (digits (drop at text.now)) }

@@ -8,7 +8,7 @@ use mathlib.Core.Bool.{Bool, true, false, cond, false≢true}
 use mathlib.Core.List.{List, [], ◌++◌}
 use lib.ListN.{get_or}
 use Rattle.finite.specs.Lists.{table, each}
-use Rattle.finite.proofs.Tests.{T_true, true-T, and_i}
+use Rattle.finite.proofs.Tests.{T_true, true-T, and_i, is_false}
 use Rattle.finite.proofs.Lists.{table_get}
 use Rattle.number.specs.Number.{encode}
 use Rattle.permutation.specs.Permutation.{permutations, image, inverse, fits}
@@ -53,15 +53,11 @@ module _ (part : ℕ → List ℕ) (n : ℕ) where
     pub tried_taken : i < permutations → fits i n ≡ true → at_most (part best) (part i) ≡ false → Tried part n i (i + 1)
     tried_taken l f g = record {
       within = omega arith;
-      chosen = record { best = best_taken (λ q. fits q n) part i best T.chosen.best f g; first = λ p k h. less p (T.chosen.best.least p k h) };
+      chosen = record {
+        best = best_taken (λ q. fits q n) part i best T.chosen.best f g;
+        first = λ p k h. is_false (λ e. false≢true (sym g ∙ at_most_trans (part best) (part p) (part i) (T.chosen.best.least p k h) e));
+      };
     }
-      where
-        less : (p : ℕ) → at_most (part best) (part p) ≡ true → at_most (part p) (part i) ≡ false
-        less p h = go (at_most (part p) (part i)) refl
-          where
-            go : (b : Bool) → at_most (part p) (part i) ≡ b → b ≡ false
-            go true e = absurd (false≢true (sym g ∙ at_most_trans (part best) (part p) (part i) h e))
-            go false e = refl
 
     pub tried_all : permutations ≤ i → Chosen part n permutations best
     tried_all l = subst (λ (j : ℕ). Chosen part n j best) (le_antisymm T.within l) T.chosen
